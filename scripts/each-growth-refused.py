@@ -16,6 +16,9 @@ Undo, redo and questions take no memory.
 Jobs: a search, a listing and a tags file, of files that are named or listed. Each is done, or says
 that memory was refused and has written nothing; an old tags file then stays.
 
+A session of an editor, by editor_growths.py: a message or a text whose growth is refused is told,
+and all that follows is as if it had not been sent, or had been too large.
+
 Printed is how many growths each session and job met. The exit status is 1 where a check failed.
 """
 
@@ -26,7 +29,8 @@ import sys
 import tempfile
 
 from cases import PROMPT, Case, Exchange, cases_of
-from growths import PATIENCE, Growths
+from editor_growths import Editing
+from growths import PATIENCE, Growths, Wrong
 
 TOP = pathlib.Path(__file__).resolve().parent.parent
 REFUSED = b"cscope: refused: out of memory\n"
@@ -48,10 +52,6 @@ MOVES = ((b":redo\n", b":undo\n"), (b":undo\n", b":redo\n"))
 DONE = b"cscope: done\n"
 FEWER = {"a wanted text among 64 files": (b"5g\n", 64)}  # its growths must not rise with the files
 MOST = 10_000  # growths of one run
-
-
-class Wrong(Exception):
-    """What should not be."""
 
 
 class Ended(Exception):
@@ -272,6 +272,9 @@ def main():
                     lambda words=words: each_of_job(growths, program, words, f"{room}/0"),
                 )
             )
+        folder = pathlib.Path(room, "editor")
+        folder.mkdir()
+        checks.append(("a session of an editor", Editing(program, growths, folder).each))
         for name, check in checks:
             try:
                 print(f"{name}: {check()} growths, each refused", flush=True)

@@ -6,8 +6,9 @@
    It has as many tasks as cores, or as RT_JOBS says: left to itself it believes that a proof of a
    large crate takes 10 GB, where it takes 3, and lets the wrong bodies wait for it.
 3. The program that it built is run on words, files and failing devices (whole-program.py).
-4. Each growth of memory is refused to it in turn (each-growth-refused.py).
-5. The completions for shells are those of its words (completions.py).
+4. Editors have sessions with its language server (editor-sessions.py).
+5. Each growth of memory is refused to it in turn (each-growth-refused.py).
+6. The completions for shells are those of its words (completions.py).
 
 At the end it says how long each step took, and how many checks passed and failed; the exit status
 is 1 where one failed.
@@ -29,6 +30,7 @@ STEPS = (
     ("the documents", ["scripts/documents.py"]),
     ("rt ci", BUILD),
     ("the whole program", ["scripts/whole-program.py", str(PROGRAM)]),
+    ("sessions of editors", ["scripts/editor-sessions.py", str(PROGRAM)]),
     ("each growth refused", ["scripts/each-growth-refused.py", str(PROGRAM)]),
     ("the completions", ["scripts/completions.py", "--check", str(PROGRAM)]),
 )

@@ -13,6 +13,10 @@ FIELDS = struct.Struct("=3Q")  # struct growths of growths.c
 PATIENCE = 60  # seconds until a run is given up
 
 
+class Wrong(Exception):
+    """What should not be."""
+
+
 class Growths:
     """The library and what it shares, in a folder that is there."""
 

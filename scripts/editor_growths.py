@@ -1,0 +1,209 @@
+"""A session of an editor with the language server, in which each growth of memory is refused.
+
+A message whose growth is refused is told by a log, by an error as its reply, or by what is shown
+for its document. After a log, an error and a show of the URI all goes on as if the message had not
+been sent. After a show of the file's name it goes on as if the text had been too large, and of a
+document that was closed, as if it had been saved before; one that was opened may not be open then
+either, and a file that was deleted stays. So runs in which nothing is refused give each outcome
+that may be. At the start the program says that memory was refused, and ends.
+"""
+
+from __future__ import annotations
+
+import json
+import pathlib
+import re
+import subprocess
+from typing import Iterable, NamedTuple, Optional
+
+from growths import PATIENCE, Growths, Wrong
+
+MOST = 10_000  # growths of one run
+MOST_BYTES = 200_000  # of a file
+FILES = {
+    "a.c": b'#include "b.h"\nint f(void) {\n\treturn g(TWICE(1));\n}\n',
+    "b.h": b"#define TWICE(x) ((x) + (x))\nstatic int g(int a) { return a; }\n",
+}
+TOO_LARGE = " " * (MOST_BYTES + 1)
+WORDS = ["lsp", "--max-file-bytes", str(MOST_BYTES), *FILES]
+AT_START = [b"cbrowse: " + name + b"out of memory\n" for name in (b"", b"a.c: ", b"b.h: ")]
+OTHERS = ("definition", "hover")  # requests that name a position
+HEAD = re.compile(rb"Content-Length: (\d+)\r\n\r\n")
+
+
+class Step(NamedTuple):
+    """A message, and messages after which the server is as after one whose text was refused."""
+
+    message: dict
+    refused: Optional[list[dict]] = None
+
+
+def uri_of(name: str) -> str:
+    return f"file:///w/a%20tree/{name}"
+
+
+def document(method: str, name: str, **more) -> dict:
+    inside = {"uri": uri_of(name), **more.pop("inside", {})}
+    return {"method": f"textDocument/{method}", "params": {"textDocument": inside, **more}}
+
+
+def opened(name: str, text: str) -> Step:
+    made = [document("didOpen", name, inside={"text": it}) for it in (text, TOO_LARGE)]
+    return Step(made[0], made[1:])
+
+
+def changed(name: str, text: str) -> Step:
+    made = [document("didChange", name, contentChanges=[{"text": it}]) for it in (text, TOO_LARGE)]
+    return Step(made[0], made[1:])
+
+
+def closed(name: str) -> Step:
+    instead = [document(it, name) for it in ("didSave", "didClose")]
+    return Step(instead[-1], instead)
+
+
+def gone(name: str) -> Step:
+    changes = [{"uri": uri_of(name), "type": 3}]
+    return Step({"method": "workspace/didChangeWatchedFiles", "params": {"changes": changes}})
+
+
+def asked(number: int, method: str, name: str, line: int, column: int) -> Step:
+    place = {"line": line, "character": column} if method in OTHERS else None
+    return Step({"id": number, **document(method, name, position=place)})
+
+
+def session() -> list[Step]:
+    """The steps of the session. One text has more bytes than there is room for at the start."""
+    root = {"rootUri": uri_of("").rstrip("/"), "capabilities": {}}
+    named = [asked(3, "definition", "a.c", 2, 9), asked(4, "hover", "a.c", 2, 13)]
+    return [
+        Step({"id": 0, "method": "initialize", "params": root}),
+        Step({"method": "initialized", "params": {}}),
+        opened("a.c", '#include "b.h"\nint \u00e9(void) {\n\treturn g(TWICE(2));\n}\n#define H\n'),
+        asked(1, "documentSymbol", "a.c", 0, 0),
+        opened("new.c", "int h(void) {\n\treturn TWICE(3);\n}\n"),
+        changed("a.c", "int i(void) {\r\n}\n\treturn g(TWICE(4)); // \u0001\"\\\n" * 2),
+        asked(2, "documentSymbol", "a.c", 0, 0),
+        *named,
+        asked(5, "definition", "new.c", 1, 9),
+        Step({"id": "\u00e9\n", "method": "workspace/symbol", "params": {"query": "I"}}),
+        changed("new.c", "int j(void) {\n}\n" + "// \t\n" * 15_000),
+        asked(6, "documentSymbol", "new.c", 0, 0),
+        changed("new.c", "int k(void) {\n}\n"),
+        Step(document("didSave", "new.c")),
+        changed("new.c", "int l(void) {\n}\n"),
+        asked(7, "documentSymbol", "new.c", 0, 0),
+        closed("a.c"),
+        asked(8, "documentSymbol", "a.c", 0, 0),
+        closed("new.c"),
+        asked(9, "documentSymbol", "new.c", 0, 0),
+        gone("b.h"),
+        opened("a.c", "int m(void) {\n}\n"),
+        opened("a.c", "int n(void) {\n}\n"),
+        Step({"id": 10, "method": "workspace/symbol", "params": {"query": ""}}),
+        Step({"id": 11, "method": "shutdown"}),
+        Step({"method": "exit"}),
+    ]
+
+
+def frame(message: dict) -> bytes:
+    body = json.dumps({"jsonrpc": "2.0", **message}, ensure_ascii=False, separators=(",", ":"))
+    return b"Content-Length: %d\r\n\r\n%s" % (len(body.encode()), body.encode())
+
+
+def told_by(method: str, kind: int, text: str) -> bytes:
+    params = {"type": kind, "message": f"cbrowse: {text}out of memory"}
+    return frame({"method": f"window/{method}", "params": params})
+
+
+def told_uri(message: dict) -> str:
+    """The URI of the file that a notification is about; nothing of other messages."""
+    params = message.get("params", {})
+    about = params.get("textDocument") or params.get("changes", [{}])[0]
+    return "" if "id" in message else about.get("uri", "")
+
+
+def error_to(number) -> bytes:
+    return frame({"id": number, "error": {"code": -32803, "message": "out of memory"}})
+
+
+def is_whole(out: bytes) -> bool:
+    """Whether this is whole frames of JSON."""
+    place = 0
+    while place < len(out):
+        head = HEAD.match(out, place)
+        if not head:
+            return False
+        place = head.end() + int(head[1])
+        try:
+            json.loads(out[head.end() : place].decode())
+        except ValueError:
+            return False
+    return place == len(out)
+
+
+class Editing:
+    """The session, and the folder with its files."""
+
+    def __init__(self, program: str, growths: Growths, folder: pathlib.Path):
+        self.program, self.growths, self.folder = program, growths, folder
+        self.steps = session()
+        for name, text in FILES.items():
+            (folder / name).write_bytes(text)
+
+    def run(self, messages: Iterable[dict], refuse: int = 0) -> tuple[int, bytes, bytes]:
+        pipes = {it: subprocess.PIPE for it in ("stdin", "stdout", "stderr")}
+        words = [self.program, *WORDS]
+        run = self.growths.start(words, refuse, cwd=self.folder, **pipes)
+        out, said = run.communicate(b"".join(map(frame, messages)), PATIENCE)
+        return run.returncode, out, said
+
+    def after(self, number: int, instead: list[dict]) -> tuple[int, bytes]:
+        """The status, and what is written after these messages in place of that step."""
+        before = [it.message for it in self.steps[:number]] + instead
+        status, whole, _ = self.run(before + [it.message for it in self.steps[number + 1 :]])
+        return status, whole[len(self.run(before)[1]) :]
+
+    def outcomes(self) -> dict[tuple[int, bytes], str]:
+        """Each status and output that may be, and what was refused."""
+        messages = [it.message for it in self.steps]
+        status, whole, said = self.run(messages)
+        if status or said or not is_whole(whole):
+            raise Wrong(f"a session of an editor: status {status}, {said!r}")
+        found = {(0, whole): "nothing"}
+        for number, step in enumerate(self.steps):
+            out = self.run(messages[:number])[1]
+            status, rest = self.after(number, [])
+            tells = [told_by("logMessage", 1, "")]
+            if "id" in step.message:
+                tells.append(error_to(step.message["id"]))
+            uri = told_uri(step.message)
+            name = uri.split("/")[-1]
+            if uri:
+                tells.append(told_by("showMessage", 2, uri + ": "))
+            if step.message["method"].endswith(("didOpen", "didChangeWatchedFiles")):
+                tells.append(told_by("showMessage", 2, name + ": "))
+            for tell in tells:
+                found[status, out + tell + rest] = f"message {number}"
+            if step.refused:
+                status, rest = self.after(number, step.refused)
+                tell = told_by("showMessage", 2, name + ": ")
+                found[status, out + tell + rest] = f"the text of message {number}"
+        return found
+
+    def each(self) -> int:
+        """How many growths there were."""
+        outcomes, messages = self.outcomes(), [it.message for it in self.steps]
+        for number in range(1, MOST):
+            status, out, said = self.run(messages, number)
+            if not self.growths.refused:
+                if outcomes.get((status, out)) != "nothing" or said:
+                    raise Wrong(f"a session of an editor: another end without a refusal: {said!r}")
+                return number - 1
+            if status == 1 and not out and said in AT_START:
+                continue
+            if said or not is_whole(out) or (status, out) not in outcomes:
+                raise Wrong(
+                    f"a session of an editor: growth {number}: status {status}, {said!r}, {out!r}"
+                )
+        raise Wrong(f"a session of an editor: more than {MOST} growths")

@@ -1,0 +1,492 @@
+#!/usr/bin/env python3
+"""Compares random sessions of editors with a model of the language server, byte for byte.
+
+    make && verify/models/random-editors.py
+    verify/models/random-editors.py --cbrowse PATH --sessions 1000 -j 2
+    verify/models/random-editors.py --first 4711 --sessions 1      one, by its seed
+
+Session number n has the seed n. It has files of the command line or none, a profile, bounds and a
+root, and then 3 to 60 messages, more often those that do something where the session stands:
+documents are opened, changed, saved, closed and deleted, and requests ask at names, headers and any
+other place, in both encodings, for lists and trees. Texts have CR LF, lone CRs, letters outside
+ASCII and, in files and in messages, bytes that are no UTF-8. Some messages have wrong parameters,
+ids or members, are no JSON or have odd heads; some inputs end within a message. The input comes in
+random pieces. Standard output, standard error and the status are compared with `server_model.py`.
+
+At the first difference the seed, the input and both outputs are shown and the exit status is 1.
+Else lines tell how often each message was sent and each reply came.
+"""
+
+from __future__ import annotations
+
+import collections
+import concurrent.futures
+import json
+import os
+import pathlib
+import random
+import re
+import subprocess
+import sys
+import tempfile
+from typing import NamedTuple
+
+from draw import Draw
+from server_model import Ended, Outcome, Server, frame, headers, position_of, serve
+from session_model import Bounds
+
+sys.path.insert(0, str(pathlib.Path(__file__).resolve().parents[1]))
+from shared import options, words_given  # noqa: E402
+
+BATCH = 50  # sessions between two looks at the outcome
+PATIENCE = 120  # seconds until a run is given up
+# fmt: off
+NAMES = [
+    "a.c", "b.c", "f.h", "g.h", "sys/f.h", "sys/ab.h", "x/sys/f.h", "a/g.h", "src/a.c", "src/f.h",
+    "z/a/main.h", "1%.c", "p#q.h", "~-_.c",
+]
+OUTSIDE = ["/usr/f.h", "/wx/a.c", "/w/../w/a.c"]
+NOT_NAMES = ["a b.c", "\u00e9.h", "a.cc", "a.txt", "", ".", "x" * 254 + ".c", "\n.c", "a.c?x"]
+ROOTS = ["file:///w", "file:///w/", "file://localhost/w", "FILE:///w//", "file:///a%20b%c3%a9",
+         "file:///a b\u00e9", "file:///", "file://localhost//", "http://w", "file:", "", 7, None]
+FOLDERS = ["/w", "/w", "/w//", "/", "/a b\u00e9", "/%41\\\""]
+ODD = ["\u00e9", "\U0001f600", "\u0301", "\ud7ff", "\ufffd", "\r", "\r\r\n", "\x01", "\x7f", "\t",
+       "f", "g(", "/* \u00e9\U0001f600 */ f ", "int \u00e9f(void) {\n}\n",
+       "#define F f \U0001f600 f\n"]
+DEFINING = [
+    "static int {}(void) {{\n}}\n", "int {}(int a) {{\n\treturn {}(a);\n}}\n",
+    "#define {} {}(1)\n",
+    '#include "{}.h"\n', "#include <sys/{}.h>\n", '#include "../a/{}.h"\n', "\t{}({}); // {}\n",
+    "typedef struct {} {{ int a; }} {};\r\n", "enum {} {{ A }}; /* \U0001f600 */ {} x;\n",
+]
+WORDS = ["f", "f", "g", "g", "ab", "main", "F", "b_1"]
+BAD = [b"\xff", b"\xc3", b"\xf0\x9f\x98", b"\xed\xa0\x80", b"\xe9\xa9", b"\xf4\x90\x80\x80",
+       b"\x80"]
+RAW = "\ue000"  # a letter that stands for bytes which are no UTF-8
+QUERIES = ["", "", "f", "F", "a", "AB", "main", "Main", "b_1", "\u00e9", "f ", "x" * 300]
+METHODS = [
+    "textDocument/references", "textDocument/rename", "textDocument/formatting", "$/any", "",
+    "exit", "callHierarchy/incomingCalls", "initialized", "textDocument/didOpen",
+    "workspace/Symbol",
+]
+QUIET = ["initialized", "$/cancelRequest", "$/setTrace", "workspace/didChangeConfiguration",
+         "textDocument/willSave", "any", "initialize", "shutdown", "textDocument/hover"]
+NO_IDS = [None, True, [1], {}, 1.0, 1e300, 2**63, -(2**63) - 1]
+IDS = [0, -1, 2**63 - 1, -(2**63), "", "a", "\u00e9\"\\\n\x00\x7f\U0001f600", "1"]
+WRONG = [None, True, 7, -1, 1.5, "", "7", [], {}, 2**64, "file:///w/a.c"]
+NO_JSON = [b"", b"{", b"nul", b"[1,]", b"{} {}", b"{'a':1}", b'{"a":"\\ud800"}', b"\xff", b"01",
+           b"[" * 129 + b"]" * 129, b"[" * 200, b'{"a" 1}', b'"\\x"', b'"\t"', b"NaN", b"1e", b"-"]
+NO_REQUESTS = [b"1", b"null", b'"a"', b"[]", b"{}", b'{"id":1}', b'{"method":7}', b'{"result":1}',
+               b"[" * 128 + b"]" * 128, b'{"id":1,"method":null,"result":2}', b"-0.5E+7", b" [ ] "]
+REPLIES = [b'{"id":1,"result":null}', b'{"id":null,"error":{}}', b'{"error":1,"id":{}}']
+BAD_HEADS = [
+    b"Content-Length: x\r\n\r\n", b"Content-Length: 2\n\n{}", b"\r\n", b"X: 1\r\n\r\n",
+    b"Content-Length: 2\r\ncontent-length: 2\r\n\r\n{}", b"Content-Length: 0000000002\r\n\r\n{}",
+    b"Content-Length : 2\r\n\r\n{}", b"Content-Length: -2\r\n\r\n{}", b"X" * 5000,
+    b"Content-Length: 2\r\nX: " + b"x" * 4071 + b"\r\n\r\n{}", b"Content-Length:\r\n\r\n",
+    b"Content-Length: 2\r\n: x\r\n\r\n{}", b"Content-Length: 2\r\nx\r\n\r\n{}",
+]
+# fmt: on
+
+
+class Difference(Exception):
+    """The program wrote something else than was expected."""
+
+
+class Session(NamedTuple):
+    """The words and files of a run, and what is sent; `how` is for the model."""
+
+    words: list[str]
+    files: dict[str, bytes]
+    data: bytes
+    how: dict
+
+
+class Editor:
+    """Draws the messages of one session, beside a server that shows where it stands."""
+
+    def __init__(self, seed: int):
+        self.random, self.draw = random.Random(f"editor {seed}"), Draw(seed)
+        self.profile = self.one(b"", b"", b"", b"--wide", b"--prototypes")
+        self.folder = self.one(*FOLDERS) if self.chance(0.25) else None
+        self.bounds = Bounds()
+        if self.chance(0.1):
+            self.bounds = Bounds(self.one(1, 2, 3), self.one(20, 200, 2_000))
+        names = self.random.sample(NAMES, self.one(0, 1, 2, 3, 5, 8))[: self.bounds.files]
+        texts = {name: self.text()[: self.bounds.file_bytes] for name in names}
+        self.files = texts
+        self.server = Server(self.bounds, self.profile, self.folder and self.folder.encode())
+        self.server.world = self.server.world._replace(
+            files={name.encode(): text for name, text in texts.items()}
+        )
+
+    def one(self, *choices):
+        return self.random.choice(choices)
+
+    def chance(self, share: float) -> bool:
+        return self.random.random() < share
+
+    # ---- texts and names
+
+    def text(self) -> bytes:
+        """The bytes of a file."""
+        text = self.draw.wide_file() if self.chance(0.4) else self.draw.file()
+        if self.chance(0.5):
+            lines = self.random.choices(DEFINING, k=self.one(1, 2, 4, 8, 16))
+            words = [self.random.choices(WORDS, k=3) for _ in lines]
+            more = "".join(line.format(*some) for line, some in zip(lines, words)).encode()
+            text = self.one(more, more + text, text + more)
+        for _ in range(self.one(0, 0, 0, 1, 2, 5)):
+            place = self.random.randint(0, len(text))
+            more = self.one(*BAD) if self.chance(0.2) else self.one(*ODD).encode()
+            text = text[:place] + more + text[place:]
+        return text
+
+    def sent_text(self) -> str:
+        """A text in a message. What is no UTF-8 stands as such or as the bytes that it is."""
+        if self.chance(0.02):
+            return "x" * self.one(self.bounds.file_bytes, self.bounds.file_bytes + 1)
+        text = self.text().decode("utf-8", "replace")
+        return text.replace("\ufffd", RAW) if self.chance(0.5) else text
+
+    def uri(self) -> str:
+        """A URI, more often of a file that is there or open."""
+        kind = self.random.random()
+        if kind < 0.02:
+            return self.one("untitled:a.c", "file:/w/a.c", "file://b/w/a.c", "http://w/a.c", "a.c")
+        there = [it.decode() for it in (*self.server.world.files, *self.server.documents)]
+        name = self.one(*NAMES)
+        if there and kind < 0.8:
+            name = self.one(*there)
+        elif kind < 0.86:
+            name = self.one(*OUTSIDE, *NOT_NAMES)
+        root = self.server.root.path.decode("utf-8", "replace")
+        path = name if name.startswith("/") else f"{root}/{name}"
+        begin = self.one("file://", "file://", "file://", "file://localhost", "File://LOCALHOST")
+        return begin + self.escaped(path)
+
+    def escaped(self, path: str) -> str:
+        """A path in one of the ways that clients write it."""
+        kind = self.one("least", "capital", "small", "all")
+        if kind == "least":
+            return re.sub(r"%(?=[0-9A-Fa-f]{2})", "%25", path)
+        kept = b"/" if kind == "all" else b"/._-~abcdefghijklmnopqrstuvwxyz"
+        form = "%%%02x" if kind == "small" else "%%%02X"
+        return "".join(chr(it) if it in kept else form % it for it in path.encode())
+
+    # ---- messages
+
+    def position(self, uri: str) -> dict:
+        """A position in a file, more often at a name or a header."""
+        if self.chance(0.05):
+            return {
+                "line": self.one(0, 1, 5, 2**32, 2**64 - 1),
+                "character": self.one(0, 3, 9, 2**32, 2**64 - 1),
+            }
+        name = self.server.file_of({"textDocument": {"uri": uri}})
+        text = self.server.world.files.get(name, b"")
+        definitions = {it.definition.name for it in self.server.places()}
+        words = [*re.finditer(rb"\w+", text)]
+        defined = [it for it in words if it[0] in definitions]
+        places = [
+            [it.start() + self.one(0, 0, 1, len(it[0])) for it in defined],
+            [it.start() + self.one(0, len(it[0])) for it in words],
+            [place + self.one(0, 1, len(it)) for place, it in headers(text)],
+            [self.random.randint(0, len(text))],
+        ]
+        weights = [bool(some) * weight for some, weight in zip(places, (8, 2, 3, 3))]
+        place = self.one(*self.random.choices(places, weights)[0]) + self.one(0, 0, 0, 0, 1, -1)
+        place = max(0, min(len(text), place))
+        line, column = position_of(text, place, self.server.is_utf16)
+        return {"line": line, "character": column + (self.one(1, 50) if self.chance(0.05) else 0)}
+
+    def initialize(self) -> dict:
+        params: dict = {}
+        if self.chance(0.9):
+            params["rootUri"] = self.one(*ROOTS, *ROOTS[:3] * 3)
+        if self.chance(0.2):
+            uri = self.one(*(it for it in ROOTS if it is None or str(it).startswith("file:///")))
+            folders = [{"uri": uri}]
+            params["workspaceFolders"] = self.one(None, [], {}, 7, folders, [*folders, 1])
+        capabilities: dict = {}
+        if self.chance(0.4):
+            encodings = self.one(["utf-8"], ["utf-16", "utf-8"], ["utf-16"], [], "utf-8", [8, None])
+            capabilities["general"] = {"positionEncodings": encodings}
+        if self.chance(0.5):
+            tree = {"hierarchicalDocumentSymbolSupport": self.one(True, True, False, 1, "true")}
+            capabilities["textDocument"] = {"documentSymbol": tree}
+        if self.chance(0.95):
+            params["capabilities"] = capabilities
+        return self.request("initialize", params)
+
+    def request(self, method: str, params) -> dict:
+        number = self.random.randint(0, 99) if self.chance(0.9) else self.one(*IDS)
+        return {"jsonrpc": "2.0", "id": number, "method": method, "params": params}
+
+    def notice(self, method: str, params) -> dict:
+        return {"jsonrpc": "2.0", "method": method, "params": params}
+
+    def open(self) -> dict:
+        document = {"uri": self.uri(), "languageId": "c", "version": 1, "text": self.sent_text()}
+        return self.notice("textDocument/didOpen", {"textDocument": document})
+
+    def change(self) -> dict:
+        texts = [{"text": self.sent_text()} for _ in range(self.one(1, 1, 1, 1, 0, 2, 3))]
+        if texts and self.chance(0.1):
+            place = {"line": 0, "character": 0}
+            self.one(*texts)["range"] = {"start": place, "end": place}
+        document = {"uri": self.uri(), "version": 2}
+        return self.notice(
+            "textDocument/didChange", {"textDocument": document, "contentChanges": texts}
+        )
+
+    def save(self) -> dict:
+        params: dict = {"textDocument": {"uri": self.uri()}}
+        if self.chance(0.3):
+            params["text"] = self.sent_text()
+        return self.notice("textDocument/didSave", params)
+
+    def close(self) -> dict:
+        return self.notice("textDocument/didClose", {"textDocument": {"uri": self.uri()}})
+
+    def gone(self) -> dict:
+        number = self.one(1, 1, 2, 3)
+        changes = [{"uri": self.uri(), "type": self.one(1, 2, 3, 3, 3)} for _ in range(number)]
+        return self.notice("workspace/didChangeWatchedFiles", {"changes": changes})
+
+    def at_place(self) -> dict:
+        uri = self.uri()
+        method = self.one("textDocument/definition", "textDocument/hover")
+        params = {"textDocument": {"uri": uri}, "position": self.position(uri)}
+        return self.request(method, params)
+
+    def symbols(self) -> dict:
+        return self.request("textDocument/documentSymbol", {"textDocument": {"uri": self.uri()}})
+
+    def all_symbols(self) -> dict:
+        return self.request("workspace/symbol", {"query": self.one(*QUERIES)})
+
+    def other(self) -> dict:
+        if self.chance(0.5):
+            return self.notice(self.one(*QUIET), self.one(*WRONG))
+        return self.request(self.one(*METHODS), self.one(*WRONG))
+
+    def wrong(self) -> dict:
+        """A message of which one member, at any depth, has another value or is missing."""
+        documents = self.open, self.change, self.save, self.close
+        made = self.one(*documents, self.at_place, self.symbols, self.initialize)()
+        inside, name = made, self.one("params", "params", "params", "id", "method")
+        while name in inside:
+            value = inside[name]
+            if isinstance(value, dict) and value and self.chance(0.8):
+                inside, name = value, self.one(*value)
+            elif self.chance(0.3):
+                del inside[name]
+            elif name == "id":
+                inside[name] = self.one(*NO_IDS)
+                break
+            else:
+                inside[name] = self.one(*(it for it in WRONG if type(it) is not type(value)))
+                break
+        return made
+
+    def message(self) -> bytes:
+        """The body of a message."""
+        phase = self.server.phase
+        if phase == "fresh" and self.chance(0.8):
+            return self.encoded(self.initialize())
+        weights = {
+            self.open: 6,
+            self.change: 8 if self.server.documents else 1,
+            self.save: 2,
+            self.close: 2 if self.server.documents else 0.3,
+            self.gone: 1,
+            self.at_place: 14,
+            self.symbols: 5,
+            self.all_symbols: 4,
+            self.other: 1,
+            self.wrong: 2,
+            self.initialize: 0.2,
+            self.end: 0.2 if phase != "down" else 2,
+            self.no_message: 1,
+        }
+        made = self.random.choices([*weights], [*weights.values()])[0]()
+        return made if isinstance(made, bytes) else self.encoded(made)
+
+    def end(self) -> dict:
+        if self.chance(0.6):
+            return self.request("shutdown", self.one(*WRONG))
+        return self.notice("exit", None)
+
+    def no_message(self) -> bytes:
+        return self.one(self.one(*NO_JSON), self.one(*NO_REQUESTS), self.one(*REPLIES))
+
+    def encoded(self, value: dict) -> bytes:
+        """The body of a value, in one of the ways to write it."""
+        members = [*value.items()]
+        if self.chance(0.3):
+            self.random.shuffle(members)
+        if self.chance(0.1):
+            members.insert(0, ("x\u00e9", {"id": [1.5e3, -0.0, None]}))
+        text = json.dumps(
+            dict(members),
+            ensure_ascii=self.chance(0.3),
+            indent=self.one(None, None, None, 1, "\t"),
+            separators=self.one((",", ":"), (", ", ": "), (" ,", " :\r\n")),
+        )
+        if self.chance(0.1):
+            text = text.replace("/", "\\/")
+        if self.chance(0.05):
+            # of two members with one name the last counts
+            text = '{"id":"first","method":"first","params":[],' + text[1:]
+            text += " \n"
+        body = text.replace(RAW, "\x00" if RAW in text else "").encode()
+        return b"".join(self.one(*BAD) if it == b"\x00" else it for it in re.split(b"(\x00)", body))
+
+    def framed(self, body: bytes) -> bytes:
+        if self.chance(0.8):
+            return frame(body)
+        name = self.one(b"content-length", b"CONTENT-LENGTH", b"Content-Length")
+        line = name + b":" + self.one(b"", b" ", b"\t ") + self.one(b"%d", b"%09d") % len(body)
+        lines = [line + self.one(b"", b" ", b"\t")]
+        if self.chance(0.5):
+            kind = b"Content-Type: application/vscode-jsonrpc; charset=utf-8"
+            lines.insert(self.one(0, 1), self.one(kind, b"X:", b"!~:::"))
+        return b"\r\n".join([*lines, b"", body])
+
+    def session(self) -> Session:
+        data, left, is_open = b"", self.random.randint(3, 60), True
+        while left and is_open:
+            body = self.message()
+            more = self.framed(body)
+            try:
+                self.server.take(body)
+            except Ended:
+                is_open = self.chance(0.1)  # what comes after the end is not read
+            data, left = data + more, left - 1
+        if is_open and self.chance(0.05):
+            data += self.one(*BAD_HEADS)
+        elif self.chance(0.1):
+            data = data[: self.random.randint(len(data) - len(more), len(data))]
+        words = ["lsp", *self.bounds.words()]
+        words = [it if isinstance(it, str) else it.decode() for it in words]
+        if self.profile:
+            words += ["--wide"] + ["--prototypes"] * (self.profile == b"--prototypes")
+        if self.folder is not None:
+            words += self.one(["--root", self.folder], [f"--root={self.folder}"])
+        words += ["--", *self.files]
+        folder = self.folder and self.folder.encode()
+        how = {"bounds": self.bounds, "profile": self.profile, "folder": folder}
+        return Session(words, self.files, data, how)
+
+
+# ---- runs
+
+
+def run(cbrowse: str, session: Session, pieces: random.Random) -> Outcome:
+    """The program over a session, which comes in pieces that it reads one by one."""
+    with tempfile.TemporaryDirectory() as home, tempfile.TemporaryFile() as out:
+        for name, text in session.files.items():
+            path = pathlib.Path(home, name)
+            path.parent.mkdir(parents=True, exist_ok=True)
+            path.write_bytes(text)
+        near, far = os.pipe2(os.O_CLOEXEC | os.O_DIRECT)
+        how = {"stdin": near, "stdout": out, "stderr": subprocess.PIPE, "cwd": home}
+        started = subprocess.Popen([cbrowse, *session.words], **how)
+        os.close(near)
+        place, most = 0, pieces.choice([10, 100, 1_000, 4_096])
+        try:
+            while place < len(session.data):
+                size = pieces.randint(1, most if len(session.data) < 20_000 else 4_096)
+                place += os.write(far, session.data[place : place + size])
+        except BrokenPipeError:
+            pass  # it ended before it read all
+        os.close(far)
+        said = started.communicate(timeout=PATIENCE)[1]
+        out.seek(0)
+        return Outcome(out.read(), said, started.returncode)
+
+
+def compare(cbrowse: str, seed: int) -> tuple[collections.Counter, collections.Counter]:
+    """Compares one session; how often each message was sent, and each reply came."""
+    session = Editor(seed).session()
+    operands = [(name.encode(), text) for name, text in session.files.items()]
+    expected = serve(operands, session.data, **session.how)
+    found = run(cbrowse, session, random.Random(seed))
+    if found != expected:
+        same = len(os.path.commonprefix([found.out, expected.out]))
+        start = max(same - 300, 0)
+        shown = re.sub(rb"x{100,}", lambda it: b"(%d of x)" % len(it[0]), session.data)
+        raise Difference(
+            "\n".join(
+                [
+                    f"the session of seed {seed} differs",
+                    *(f"file {name}: {text!r}" for name, text in session.files.items()),
+                    f"words: {session.words!r}",
+                    f"input: {shown[:60_000]!r}",
+                    f"expected, from byte {start} on: {expected.out[start:start + 1500]!r}"
+                    f" {expected[1:]}",
+                    f"found: {found.out[start:start + 1500]!r} {found[1:]}",
+                    f"the first other byte is number {same}",
+                ]
+            )
+        )
+    methods = re.findall(rb'"method" ?:\s*"([^"]*)"', session.data)
+    sent = collections.Counter(it.replace(b"\\/", b"/") or b"none" for it in methods)
+    kinds = rb'"(?:message|result)":("[^"]{0,40}|null|\[\]|\[|\{"[a-z]+")'
+    came = re.sub(rb"cbrowse: \S+:", b"cbrowse: NAME:", expected.out)
+    told = collections.Counter(re.findall(kinds, came))
+    told[b"status %d %s" % (expected.status, expected.error.strip())] += 1
+    return sent, told
+
+
+def batch(cbrowse: str, first: int, number: int):
+    """Some sessions by their seeds: the first difference, if there is one, and what was met."""
+    sent, told = collections.Counter(), collections.Counter()
+    for seed in range(first, first + number):
+        try:
+            more = compare(cbrowse, seed)
+        except Difference as difference:
+            return str(difference), sent, told
+        sent, told = sent + more[0], told + more[1]
+    return None, sent, told
+
+
+def main() -> None:
+    parser = options(__doc__)
+    parser.add_argument(
+        "--sessions", type=int, default=3_000, help="how many random sessions, 3,000 by default"
+    )
+    parser.add_argument(
+        "--first", type=int, default=1, help="the seed of the first one, 1 by default"
+    )
+    parser.add_argument(
+        "-j", dest="workers", type=int, default=2, help="how many at once, 2 by default"
+    )
+    given = words_given(parser)
+    sent, told = collections.Counter(), collections.Counter()
+    last = given.first + given.sessions
+    with concurrent.futures.ProcessPoolExecutor(given.workers) as pool:
+        jobs = [
+            pool.submit(batch, given.cbrowse, first, min(BATCH, last - first))
+            for first in range(given.first, last, BATCH)
+        ]
+        for job in jobs:
+            difference, *more = job.result()
+            if difference:
+                pool.shutdown(cancel_futures=True)
+                raise SystemExit(difference)
+            sent, told = sent + more[0], told + more[1]
+    print(f"{given.sessions} random sessions from seed {given.first} on: no difference")
+    for title, counts in ("sent", sent), ("came", told):
+        print(
+            f"{title}: "
+            + ", ".join(
+                f"{word.decode('utf-8', 'replace')} {count}"
+                for word, count in sorted(counts.items())
+            )
+        )
+
+
+if __name__ == "__main__":
+    main()

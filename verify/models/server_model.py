@@ -1,0 +1,680 @@
+"""What `cbrowse lsp` writes: a model of the language server, written from its rules alone.
+
+Messages are framed and judged here, documents are opened, changed and closed, and requests are
+answered. What texts hold is in `text_model.py` and `wide_model.py`, and which texts and names of
+files are accepted is in `session_model.py`. Memory never runs out here.
+"""
+
+from __future__ import annotations
+
+import functools
+import json
+import re
+import sys
+from typing import Callable, NamedTuple, Optional
+
+import text_model
+import wide_model
+from session_model import Bounds, Outcome, Refused, World, drop, is_file_name, load, reload, told
+from text_model import RESERVED, cut_lines, header, parts_of
+
+sys.set_int_max_str_digits(0)
+MOST_HEAD, MOST_BODY, MOST_DEPTH = 4_096, 16_000_000, 128
+MOST_SYMBOLS, MOST_HOVERED = 1_000, 8
+WELCOME = (
+    b'{"capabilities":{"positionEncoding":"%s",'
+    b'"textDocumentSync":{"openClose":true,"change":1,"save":true},"hoverProvider":true,'
+    b'"definitionProvider":true,"documentSymbolProvider":true,"workspaceSymbolProvider":true},'
+    b'"serverInfo":{"name":"cbrowse","version":"0.1.0"}}'
+)
+# by the letters of definitions: functions, macros, typedefs, structures, unions, enumerations;
+# enumerators, members, variables, external declarations, prototypes
+KINDS = {
+    b"f": 12,
+    b"d": 14,
+    b"t": 5,
+    b"s": 23,
+    b"u": 23,
+    b"g": 10,
+    b"e": 22,
+    b"m": 8,
+    b"v": 13,
+    b"x": 13,
+    b"p": 12,
+}
+PROFILES: dict[bytes, Callable] = {
+    b"": text_model.facts,
+    b"--wide": lambda text: wide_model.without_prototypes(wide_model.facts(text)),
+    b"--prototypes": wide_model.facts,
+}
+# the well-formed sequences of UTF-8, and any byte that begins none
+SEQUENCE = re.compile(
+    rb"""
+    [\x00-\x7f] | [\xc2-\xdf][\x80-\xbf] | \xe0[\xa0-\xbf][\x80-\xbf]
+    | [\xe1-\xec\xee\xef][\x80-\xbf]{2} | \xed[\x80-\x9f][\x80-\xbf]
+    | \xf0[\x90-\xbf][\x80-\xbf]{2} | [\xf1-\xf3][\x80-\xbf]{3} | \xf4[\x80-\x8f][\x80-\xbf]{2}
+    | (?P<lone> . )""",
+    re.VERBOSE | re.DOTALL,
+)
+SHORT = {0x22: b'\\"', 0x5C: b"\\\\", 8: b"\\b", 12: b"\\f", 10: b"\\n", 13: b"\\r", 9: b"\\t"}
+
+
+class Error(Exception):
+    """A request is answered with an error; the code and the text."""
+
+
+class Ended(Exception):
+    """The run ends: the status, and what is said on standard error."""
+
+
+BAD_PARAMETERS = Error(-32602, b"bad parameters")
+
+
+# ---- JSON
+
+
+class Number(NamedTuple):
+    text: str
+    is_whole: bool  # written without a point and an exponent
+
+    @property
+    def value(self):
+        """The integer that is written, or none."""
+        return int(self.text) if self.is_whole else None
+
+
+def pairs(members):
+    for name, value in members:
+        refuse_lone(name)
+        refuse_lone(value)
+    return dict(members)
+
+
+def refuse_lone(value):
+    """Refuses a string with a lone surrogate, and a list with one."""
+    if isinstance(value, str) and re.search("[\ud800-\udfff]", value):
+        raise ValueError("a lone surrogate")
+    if isinstance(value, list):
+        for one in value:
+            refuse_lone(one)
+    return value
+
+
+def no_number(text):
+    raise ValueError(text)
+
+
+DECODER = json.JSONDecoder(
+    parse_int=lambda text: Number(text, True),
+    parse_float=lambda text: Number(text, False),
+    parse_constant=no_number,
+    object_pairs_hook=pairs,
+)
+
+
+def depth_of(text):
+    """How deep the brackets of a text are that stand in no string."""
+    depth = deepest = 0
+    without = re.sub(r'"(?:\\.|[^"\\])*("|$)', "", text, flags=re.DOTALL)
+    for bracket in re.findall(r"[\[\]{}]", without):
+        depth += 1 if bracket in "[{" else -1
+        deepest = max(deepest, depth)
+    return deepest
+
+
+def parsed(body):
+    """The value of a body; it raises ValueError where the body is no JSON."""
+    text = body.decode("utf-8", "replace")
+    if depth_of(text) > MOST_DEPTH:
+        raise ValueError("too deep")
+    return refuse_lone(DECODER.decode(text.strip(" \t\r\n")))
+
+
+def member(value, *names):
+    """The member of members of a value, or none."""
+    for name in names:
+        value = value.get(name) if isinstance(value, dict) else None
+    return value
+
+
+def string_of(value, *names):
+    """A member that is a string, as UTF-8."""
+    found = member(value, *names)
+    if not isinstance(found, str):
+        raise BAD_PARAMETERS
+    return found.encode()
+
+
+def natural(value, *names):
+    """A member that is an integer from 0 up, and below 2^64."""
+    found = member(value, *names)
+    if not isinstance(found, Number) or found.value is None or not 0 <= found.value < 2**64:
+        raise BAD_PARAMETERS
+    return found.value
+
+
+def quoted(text):
+    """A string; each byte that belongs to no well-formed sequence is U+FFFD."""
+    out = b""
+    for found in SEQUENCE.finditer(text):
+        byte = found[0][0]
+        if found["lone"] is not None:
+            out += "\ufffd".encode()
+        elif byte in SHORT:
+            out += SHORT[byte]
+        else:
+            out += b"\\u%04x" % byte if byte < 0x20 else found[0]
+    return b'"%s"' % out
+
+
+def listed(values):
+    return b"[%s]" % b",".join(values)
+
+
+# ---- frames
+
+
+def frame(body):
+    return b"Content-Length: %d\r\n\r\n%s" % (len(body), body)
+
+
+def length_in(lines):
+    """The length that the lines of a head give."""
+    found = []
+    for line in lines:
+        field = re.fullmatch(rb"([!-9;-~]+):(.*)", line, re.DOTALL)
+        if field is None:
+            raise Ended(1, b"bad header")
+        if field[1].lower() == b"content-length":
+            found.append(field[2].strip(b" \t"))
+    if len(found) != 1 or not re.fullmatch(rb"[0-9]{1,9}", found[0]):
+        raise Ended(1, b"bad header")
+    return int(found[0])
+
+
+def head_at(data, place):
+    """The length that a head gives, and where it ends."""
+    lines, start = [], place
+    while True:
+        feed = data.find(b"\n", start)
+        end = feed + 1 if feed >= 0 else len(data)
+        if end - place > MOST_HEAD:
+            raise Ended(1, b"bad header")
+        if feed < 0:
+            raise Ended(1, b"input ended")
+        if data[start:feed][-1:] != b"\r":
+            raise Ended(1, b"bad header")
+        if feed == start + 1:
+            return length_in(lines), end
+        lines.append(data[start : feed - 1])
+        start = end
+
+
+# ---- texts and positions
+
+
+@functools.lru_cache(maxsize=1024)
+def starts(text):
+    """Where the lines begin; after the last LF one begins too."""
+    return [0, *(found.end() for found in re.finditer(b"\n", text))]
+
+
+def shown(text, line):
+    """Where a line begins, and the line without its end."""
+    start = starts(text)[line]
+    ends = cut_lines(text)
+    return start, ends[line][0] if line < len(ends) else b""
+
+
+def units_of(sequence, is_utf16):
+    if not is_utf16:
+        return len(sequence)
+    return 2 if len(sequence) == 4 else 1
+
+
+def width(line, is_utf16):
+    return sum(units_of(found[0], is_utf16) for found in SEQUENCE.finditer(line))
+
+
+def place_of(text, line, column, is_utf16):
+    """The byte that a position names."""
+    if line >= len(starts(text)):
+        return len(text)
+    start, whole = shown(text, line)
+    if not is_utf16:
+        return start + min(column, len(whole))
+    for found in SEQUENCE.finditer(whole):
+        column -= units_of(found[0], True)
+        if column < 0:
+            return start + found.start()
+    return start + len(whole)
+
+
+def position_of(text, place, is_utf16):
+    line = text.count(b"\n", 0, place)
+    return line, width(text[starts(text)[line] : place], is_utf16)
+
+
+def position_form(position):
+    return b'{"line":%d,"character":%d}' % position
+
+
+def range_form(text, start, end, is_utf16):
+    return b'{"start":%s,"end":%s}' % tuple(
+        position_form(position_of(text, place, is_utf16)) for place in (start, end)
+    )
+
+
+def word_at(text, place):
+    """Where the word at a place begins and ends, or none."""
+    start = end = place
+    while start and re.match(rb"\w", text[start - 1 : start]):
+        start -= 1
+    while re.match(rb"\w", text[end : end + 1]):
+        end += 1
+    word = text[start:end]
+    is_name = word and not word[:1].isdigit() and word not in RESERVED
+    return (start, end) if is_name else None
+
+
+@functools.lru_cache(maxsize=4096)
+def headers(text):
+    """Place and bytes of each header."""
+    lines = [line for line in parts_of(text).directives if line.own_word == b"include"]
+    return [(place, name) for place, name in (header(text, it.tokens) for it in lines) if name]
+
+
+# ---- names and URIs
+
+
+FILE_URI = re.compile(rb"(file://(?:localhost)?)(/.*)", re.IGNORECASE | re.DOTALL)
+
+
+def path_of(uri):
+    """The path of a file URI, or none."""
+    found = FILE_URI.fullmatch(uri)
+    if found is None:
+        return None
+    return re.sub(rb"%([0-9A-Fa-f]{2})", lambda it: bytes([int(it[1], 16)]), found[2])
+
+
+def escaped(path):
+    return b"".join(
+        bytes([byte]) if re.match(rb"[A-Za-z0-9\-._~/]", bytes([byte])) else b"%%%02X" % byte
+        for byte in path
+    )
+
+
+class Root(NamedTuple):
+    """The folder of the names: its path, and the text of its URI."""
+
+    path: bytes = b""
+    uri: bytes = b"file://"
+
+    def name_in(self, path):
+        begin = self.path + b"/"
+        return path[len(begin) :] if path.startswith(begin) else path
+
+    def uri_of(self, name):
+        if name.startswith(b"/"):
+            return b"file://" + escaped(name)
+        return self.uri + b"/" + escaped(name)
+
+
+def root_of_words(folder):
+    path = folder.rstrip(b"/")
+    return Root(path, b"file://" + escaped(path))
+
+
+def root_of_uri(uri):
+    """The root that a client gives by a file URI, whose text stays without slashes at its end."""
+    begin, path = FILE_URI.fullmatch(uri).groups()
+    return Root(path_of(uri).rstrip(b"/"), begin + path.rstrip(b"/"))
+
+
+# ---- the server
+
+
+class Document(NamedTuple):
+    """An open document: the text that it goes back to, and whether it is lost."""
+
+    kept: Optional[bytes]
+    is_lost: bool = False
+
+
+class Place(NamedTuple):
+    """A definition in its file."""
+
+    file: bytes
+    definition: text_model.Definition
+
+
+class Server:
+    """The state of a server, and what it has written."""
+
+    def __init__(self, bounds=Bounds(), profile=b"", folder=None):
+        self.world, self.documents = World({}, bounds=bounds), {}
+        self.facts = PROFILES[profile]
+        self.root = Root() if folder is None else root_of_words(folder)
+        self.is_root_given = folder is not None
+        self.phase, self.is_utf16, self.is_tree = "fresh", True, False
+        self.out = b""
+
+    # ---- what is written
+
+    def put(self, text):
+        self.out += frame(b'{"jsonrpc":"2.0",%s}' % text)
+
+    def log(self, text):
+        params = b'{"type":1,"message":"cbrowse: %s"}' % text
+        self.put(b'"method":"window/logMessage","params":%s' % params)
+
+    def show(self, name, text):
+        message = quoted(b"cbrowse: %s: %s" % (name, text))
+        self.put(b'"method":"window/showMessage","params":{"type":2,"message":%s}' % message)
+
+    # ---- messages
+
+    def run(self, data):
+        """Reads messages until the run ends: what is written, said, and the status."""
+        place = 0
+        try:
+            while place < len(data):
+                size, start = head_at(data, place)
+                place = start + size
+                if place > len(data):
+                    raise Ended(1, b"input ended")
+                if size > MOST_BODY:
+                    self.log(b"too large")
+                else:
+                    self.take(data[start:place])
+            raise Ended(0 if self.phase == "down" else 1, b"")
+        except Ended as ended:
+            status, said = ended.args
+        return Outcome(self.out, b"cbrowse: %s\n" % said if said else b"", status)
+
+    def take(self, body):
+        """What a message says: a request, a notification, or nothing that counts."""
+        try:
+            value = parsed(body)
+        except ValueError:
+            return self.log(b"not JSON")
+        if not isinstance(value, dict):
+            return self.log(b"not a request")
+        if "method" not in value and "id" in value and ("result" in value or "error" in value):
+            return None
+        method, params = value.get("method"), value.get("params")
+        if not isinstance(method, str):
+            return self.log(b"not a request")
+        if "id" not in value:
+            return self.notice(method, params)
+        number = value["id"]
+        if isinstance(number, str):
+            return self.answer(quoted(number.encode()), method, params)
+        if isinstance(number, Number) and number.is_whole and -(2**63) <= number.value < 2**63:
+            return self.answer(b"%d" % number.value, method, params)
+        return self.log(b"not a request")
+
+    def notice(self, method, params):
+        if method == "exit":
+            raise Ended(0 if self.phase == "down" else 1, b"")
+        notices = {
+            "textDocument/didOpen": self.did_open,
+            "textDocument/didChange": self.did_change,
+            "textDocument/didSave": self.did_save,
+            "textDocument/didClose": self.did_close,
+            "workspace/didChangeWatchedFiles": self.did_change_watched,
+        }
+        if self.phase == "running" and method in notices:
+            try:
+                notices[method](params)
+            except Error:
+                pass
+
+    def answer(self, number, method, params):
+        try:
+            reply = b'"result":' + self.result_of(method, params)
+        except Error as error:
+            reply = b'"error":{"code":%d,"message":"%s"}' % error.args
+        self.put(b'"id":%s,%s' % (number, reply))
+
+    def result_of(self, method, params):
+        if self.phase == "fresh" and method != "initialize":
+            raise Error(-32002, b"not initialized")
+        if self.phase == "down":
+            raise Error(-32600, b"shut down")
+        results = {
+            "initialize": self.initialize,
+            "shutdown": self.shutdown,
+            "textDocument/definition": self.definition,
+            "textDocument/hover": self.hover,
+            "textDocument/documentSymbol": self.document_symbol,
+            "workspace/symbol": self.workspace_symbol,
+        }
+        if method not in results:
+            raise Error(-32601, b"unknown method")
+        return results[method](params)
+
+    # ---- its life
+
+    def initialize(self, params):
+        if self.phase != "fresh":
+            raise Error(-32600, b"initialized already")
+        self.phase = "running"
+        folders = member(params, "workspaceFolders")
+        folder = member(folders[0], "uri") if isinstance(folders, list) and folders else None
+        uri = folder if isinstance(folder, str) else member(params, "rootUri")
+        is_file = isinstance(uri, str) and path_of(uri.encode()) is not None
+        if is_file and not self.is_root_given:
+            self.root = root_of_uri(uri.encode())
+        encodings = member(params, "capabilities", "general", "positionEncodings")
+        self.is_utf16 = not (isinstance(encodings, list) and "utf-8" in encodings)
+        names = "capabilities", "textDocument", "documentSymbol"
+        self.is_tree = member(params, *names, "hierarchicalDocumentSymbolSupport") is True
+        return WELCOME % (b"utf-16" if self.is_utf16 else b"utf-8")
+
+    def shutdown(self, _):
+        self.phase = "down"
+        return b"null"
+
+    # ---- documents
+
+    def file_of(self, params):
+        """The name of the file that a notification or a request is about, or none."""
+        path = path_of(string_of(params, "textDocument", "uri"))
+        name = None if path is None else self.root.name_in(path)
+        return name if name is not None and is_file_name(name) else None
+
+    def store(self, name, text):
+        """Gives a file a text, or says why not."""
+        try:
+            change = reload if name in self.world.files else load
+            self.world = change(self.world, name, text)
+        except Refused as refused:
+            return str(refused).encode()
+        return None
+
+    def lose(self, name, kept, refusal):
+        """A text of a document was not taken: the client is told once."""
+        before = self.documents.get(name)
+        if before is None or not before.is_lost:
+            self.show(name, refusal)
+        self.documents[name] = Document(kept, True)
+
+    def did_open(self, params):
+        path, name = path_of(string_of(params, "textDocument", "uri")), self.file_of(params)
+        if path is None or path[-2:] not in (b".c", b".h"):
+            return
+        if name is None:
+            self.show(escaped(path), b"bad name")
+            return
+        text = string_of(params, "textDocument", "text")
+        refusal = self.store(name, text)
+        if refusal is None:
+            self.documents[name] = Document(text)
+        else:
+            self.lose(name, None, refusal)
+
+    def did_change(self, params):
+        name = self.file_of(params)
+        if name not in self.documents:
+            return
+        kept, changes = self.documents[name].kept, member(params, "contentChanges")
+        texts = [member(change, "text") for change in changes] if isinstance(changes, list) else [7]
+        is_part = isinstance(changes, list) and any(
+            isinstance(change, dict) and "range" in change for change in changes
+        )
+        if is_part or not all(isinstance(text, str) for text in texts):
+            self.lose(name, kept, b"bad parameters")
+        elif texts:
+            refusal = self.store(name, texts[-1].encode())
+            if refusal is None:
+                self.documents[name] = Document(kept)
+            else:
+                self.lose(name, kept, refusal)
+
+    def did_save(self, params):
+        name = self.file_of(params)
+        if name in self.documents and not self.documents[name].is_lost:
+            self.documents[name] = Document(self.world.files[name])
+
+    def did_close(self, params):
+        name = self.file_of(params)
+        if name in self.documents:
+            kept = self.documents.pop(name).kept
+            if kept is not None:
+                self.store(name, kept)
+
+    def did_change_watched(self, params):
+        changes = member(params, "changes")
+        if not isinstance(changes, list):
+            return
+        for change in changes:
+            kind, uri = member(change, "type"), member(change, "uri")
+            if not isinstance(uri, str) or kind != Number("3", True):
+                continue
+            name = self.file_of({"textDocument": {"uri": uri}})
+            if name in self.world.files and name not in self.documents:
+                self.world = drop(self.world, name)
+
+    # ---- answers
+
+    def places(self):
+        """All definitions, by file and place."""
+        return [
+            Place(file, one)
+            for file, text in sorted(self.world.files.items())
+            for one in self.facts(text).definitions
+        ]
+
+    def meant(self, file, name):
+        """The definitions that a name means in a file."""
+        named = [it for it in self.places() if it.definition.name == name]
+        private = {
+            it.file
+            for it in named
+            if it.definition.local and it.definition.kind == b"f" and it.file.endswith(b".c")
+        }
+        if file in private:
+            return [it for it in named if it.file == file]
+        return [it for it in named if it.file not in private] or named
+
+    def range_of(self, place):
+        text, (_, one) = self.world.files[place.file], place
+        return range_form(text, one.place, one.place + len(one.name), self.is_utf16)
+
+    def line_of(self, place):
+        text = self.world.files[place.file]
+        line = place.definition.line - 1
+        end = width(shown(text, line)[1], self.is_utf16)
+        return b'{"start":%s,"end":%s}' % (position_form((line, 0)), position_form((line, end)))
+
+    def location(self, file, span):
+        return b'{"uri":%s,"range":%s}' % (quoted(self.root.uri_of(file)), span)
+
+    def symbol(self, place, is_tree):
+        begin = b'{"name":%s,"kind":%d,' % (
+            quoted(place.definition.name),
+            KINDS[place.definition.kind],
+        )
+        if is_tree:
+            more = b'"range":%s,"selectionRange":%s}' % (self.line_of(place), self.range_of(place))
+        else:
+            more = b'"location":%s}' % self.location(place.file, self.range_of(place))
+        return begin + more
+
+    def asked(self, params):
+        """The file of a request that is at a place, its text, and the place."""
+        string_of(params, "textDocument", "uri")
+        line = natural(params, "position", "line")
+        column = natural(params, "position", "character")
+        file = self.file_of(params)
+        text = self.world.files.get(file)
+        if text is None:
+            return None, b"", 0
+        return file, text, place_of(text, line, column, self.is_utf16)
+
+    def definition(self, params):
+        file, text, place = self.asked(params)
+        if file is None:
+            return b"null"
+        for start, name in headers(text):
+            if start <= place <= start + len(name):
+                zero = b'{"start":%s,"end":%s}' % ((position_form((0, 0)),) * 2)
+                return listed(self.location(it, zero) for it in self.files_of_header(file, name))
+        word = word_at(text, place)
+        meant = self.meant(file, text[word[0] : word[1]]) if word else []
+        return listed(self.location(it.file, self.range_of(it)) for it in meant)
+
+    def files_of_header(self, file, name):
+        beside = file[: file.rfind(b"/") + 1] + name
+        if beside in self.world.files:
+            return [beside]
+        tail = re.sub(rb"^(\.{1,2}/)+", b"", name)
+        return [it for it in sorted(self.world.files) if it == tail or it.endswith(b"/" + tail)]
+
+    def hover(self, params):
+        file, text, place = self.asked(params)
+        word = word_at(text, place)
+        if file is None or word is None:
+            return b"null"
+        meant = self.meant(file, text[word[0] : word[1]])[:MOST_HOVERED]
+        if not meant:
+            return b"null"
+        rows = []
+        for it in meant:
+            line = it.definition.line
+            row = cut_lines(self.world.files[it.file])[line - 1][0].lstrip(b" \t")
+            rows.append(b"%s:%d\n%s" % (it.file, line, row))
+        contents = b'{"kind":"plaintext","value":%s}' % quoted(b"\n\n".join(rows))
+        span = range_form(text, *word, self.is_utf16)
+        return b'{"contents":%s,"range":%s}' % (contents, span)
+
+    def document_symbol(self, params):
+        file = self.file_of(params)
+        if file not in self.world.files:
+            return b"null"
+        places = [Place(file, one) for one in self.facts(self.world.files[file]).definitions]
+        return listed(self.symbol(it, self.is_tree) for it in places)
+
+    def workspace_symbol(self, params):
+        query = string_of(params, "query")
+        named = sorted(self.places(), key=lambda it: (it.definition.name, it.file))
+        exact = [it for it in named if it.definition.name == query]
+        holding = [
+            it
+            for it in named
+            if it.definition.name != query and query.lower() in it.definition.name.lower()
+        ]
+        return listed(self.symbol(it, False) for it in (exact + holding)[:MOST_SYMBOLS])
+
+
+def serve(operands, data, **how):
+    """A run over files of the command line: what is written, said, and the status."""
+    server = Server(**how)
+    for name, text in operands:
+        try:
+            server.world = load(server.world, name, text)
+        except Refused as refused:
+            return Outcome(b"", b"cbrowse: %s: %s\n" % (told(name), str(refused).encode()), 1)
+    return server.run(data)
