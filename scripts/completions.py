@@ -19,8 +19,10 @@ from typing import NamedTuple
 
 TOP = pathlib.Path(__file__).resolve().parent.parent
 PLACE = TOP / "editors" / "completions"
-COMPANIONS = ("cbrowse-tree", "cbrowse-cscope", "cbrowse-graph")
+COMPANIONS = ("cbrowse-tree", "cbrowse-cscope", "cbrowse-graph", "cbrowse-lsp")
 FOLDERS = ("cbrowse-tree", "cbrowse-tree find", "cbrowse-graph")  # take folders as well as files
+ALONE = ("cbrowse-lsp",)  # take options alone
+IS_FOLDER = ("FOLDER", "DIR")  # what stands for a folder in the help
 MADE_BY = "Made by scripts/completions.py from what the programs say of their words."
 
 
@@ -120,7 +122,7 @@ def bash(listed: list[Words]) -> str:
             if option.choices:
                 values.append(f"    {cases}) words='{' '.join(option.choices)}' ;;")
             elif option.value and option.value not in ("FILE", "TAGSFILE", "LIST", "NAMES"):
-                if option.value == "FOLDER":
+                if option.value in IS_FOLDER:
                     values.append(f"    {cases}) kind=folders ;;")
                 else:
                     values.append(f"    {cases}) kind=none ;;")
@@ -144,7 +146,7 @@ def bash(listed: list[Words]) -> str:
             '    case "$name $before" in',
             *values,
             "    *)",
-            "        kind=sources",
+            f"        case $name in {'|'.join(ALONE)}) kind=none ;; *) kind=sources ;; esac",
             "        case $word in",
             "        -*) case $name in",
             *options,
@@ -190,7 +192,7 @@ def zsh_options(it: Words) -> list[str]:
         value = ""
         if option.choices:
             value = f":{option.value.lower() or 'value'}:({' '.join(option.choices)})"
-        elif option.value == "FOLDER":
+        elif option.value in IS_FOLDER:
             value = ":folder:_files -/"
         elif option.value in ("FILE", "TAGSFILE", "LIST", "NAMES"):
             value = f":{option.value.lower()}:_files"
@@ -234,7 +236,8 @@ def zsh(listed: list[Words]) -> str:
                 rest = ["        '2:pattern: '", *rest]
             specs = [*zsh_options(it), first, *rest]
         else:
-            specs = [*zsh_options(it), f"        '*:source:{files}'"]
+            rest = [] if it.name in ALONE else [f"        '*:source:{files}'"]
+            specs = [*zsh_options(it), *rest]
         lines.append("    _arguments \\")
         lines.append(" \\\n".join(specs) + " ;;")
     lines += ["esac", ""]
@@ -259,6 +262,8 @@ def fish(program: str, listed: list[Words]) -> str:
             when = f" -n 'not __fish_seen_subcommand_from {names}'" if names else ""
         else:
             when = f" -n '__fish_seen_subcommand_from {it.name.split()[1]}'"
+        if it.name in ALONE:
+            lines.append(f"complete -c {program} -f")
         for word, what in {**it.subcommands, **it.first}.items():
             lines.append(f"complete -c {program}{when} -a {word} -d '{in_fish(what)}'")
         for option in it.options:
@@ -270,7 +275,7 @@ def fish(program: str, listed: list[Words]) -> str:
                     flags += f" -s {name[1:]}" if len(name) == 2 else f" -o {name[1:]}"
             if option.choices:
                 flags += f" -x -a '{' '.join(option.choices)}'"
-            elif option.value == "FOLDER":
+            elif option.value in IS_FOLDER:
                 flags += " -x -a '(__fish_complete_directories)'"
             elif option.value in ("FILE", "TAGSFILE", "LIST", "NAMES"):
                 flags += " -r"

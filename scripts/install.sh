@@ -54,7 +54,7 @@ page=$(mktemp)
 trap 'rm -f "$new" "$tags" "$page"' EXIT
 if [ -f "$dest$made" ]; then cat "$dest$made" >"$new"; fi
 [ -z "$dest" ] || [ "$undo" ] || mkdir -p "$dest"
-companions='cbrowse-cscope cbrowse-graph cbrowse-tree'
+companions='cbrowse-cscope cbrowse-graph cbrowse-lsp cbrowse-tree'
 pack=pack/cbrowse/start/cbrowse
 vim=$share/vim/vimfiles/$pack
 put 755 bin/cbrowse "$prefix/bin/cbrowse"

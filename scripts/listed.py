@@ -23,6 +23,7 @@ def says(words: list[str], wanted: str) -> bool:
 
 CLANG = "import clang.cindex; clang.cindex.Index.create(); print('loaded')"
 XCSCOPE = "(progn (require 'xcscope) (princ 'loaded))"
+EGLOT = "(progn (require 'eglot) (princ 'loaded))"
 # What may be needed: how to see that it is there. Each is told by the name of its Debian package.
 NEEDS: dict[str, Callable[[], bool]] = {
     "universal-ctags": lambda: says(["ctags", "--version"], "Universal Ctags"),
@@ -32,6 +33,7 @@ NEEDS: dict[str, Callable[[], bool]] = {
     "vim-nox": lambda: says(["vim", "--version"], "+cscope")
     and says(["vim", "--version"], "+channel"),
     "elpa-xcscope": lambda: says(["emacs", "--batch", "--eval", XCSCOPE], "loaded"),
+    "elpa-eglot": lambda: says(["emacs", "--batch", "--eval", EGLOT], "loaded"),
     "less": lambda: shutil.which("less") is not None,
     "neovim": lambda: shutil.which("nvim") is not None,
     "parallel": lambda: says(["parallel", "--version"], "GNU parallel"),

@@ -73,11 +73,13 @@ Priority: optional
 Description: proved source browser for C, with tags files and sessions
  cbrowse writes tags files for editors, answers the questions of cscope's line
  mode, and keeps sessions of files in memory in which every change can be undone
- and redone. Each of its functions is proved to meet its contract.
+ and redone. It is a language server, too. Each of its functions is proved to
+ meet its contract.
  .
  With it come cbrowse-tree for whole trees of sources, cbrowse-graph for
- pictures of who calls whom, cbrowse-cscope for editors that ask cscope, and a
- plugin for vim and nvim.
+ pictures of who calls whom, cbrowse-lsp for editors that have a client of
+ language servers, cbrowse-cscope for editors that ask cscope, and a plugin for
+ vim and nvim.
 END
 (cd "$root" && find usr -type f | LC_ALL=C sort | xargs md5sum) >"$root/DEBIAN/md5sums"
 dpkg-deb --root-owner-group --build "$root" "dist/cbrowse_$version-1_$arch.deb" >/dev/null

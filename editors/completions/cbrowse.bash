@@ -3,7 +3,7 @@
 _cbrowse() {
     local name=${1##*/} word=$2 before=$3 words= kind=sources at=1
     case "$name ${COMP_WORDS[1]}" in
-    "cbrowse line"|"cbrowse find"|"cbrowse tags"|"cbrowse help"|"cbrowse-tree find")
+    "cbrowse line"|"cbrowse find"|"cbrowse tags"|"cbrowse lsp"|"cbrowse help"|"cbrowse-tree find")
         if [ "$COMP_CWORD" -gt 1 ]; then name="$name ${COMP_WORDS[1]}" at=2; fi ;;
     esac
     case "$name $before" in
@@ -18,6 +18,10 @@ _cbrowse() {
     "cbrowse tags --max-files") kind=none ;;
     "cbrowse tags --max-file-bytes") kind=none ;;
     "cbrowse tags --files-from") kind=files ;;
+    "cbrowse lsp --root") kind=folders ;;
+    "cbrowse lsp --max-files") kind=none ;;
+    "cbrowse lsp --max-file-bytes") kind=none ;;
+    "cbrowse lsp --files-from") kind=files ;;
     "cbrowse-tree -f") kind=files ;;
     "cbrowse-tree --format") words='1 2' ;;
     "cbrowse-tree -L") kind=files ;;
@@ -42,24 +46,29 @@ _cbrowse() {
     "cbrowse-graph -L") kind=files ;;
     "cbrowse-graph --exclude") kind=none ;;
     "cbrowse-graph -j") kind=none ;;
+    "cbrowse-lsp --root") kind=folders ;;
+    "cbrowse-lsp --max-files") kind=none ;;
+    "cbrowse-lsp --max-file-bytes") kind=none ;;
     *)
-        kind=sources
+        case $name in cbrowse-lsp) kind=none ;; *) kind=sources ;; esac
         case $word in
         -*) case $name in
         'cbrowse') words='-h --help -V --version' ;;
         'cbrowse line') words='--wide --prototypes --max-files --max-file-bytes --files-from -h --help' ;;
         'cbrowse find') words='--wide --prototypes --max-files --max-file-bytes --files-from -h --help' ;;
         'cbrowse tags') words='-x -f --format --wide --prototypes --max-files --max-file-bytes --files-from -h --help' ;;
+        'cbrowse lsp') words='--root --wide --prototypes --max-files --max-file-bytes --files-from -h --help' ;;
         'cbrowse help') words='' ;;
         'cbrowse-tree') words='-f --format -x --standard --prototypes -L --questions --exclude -j --all --force --verbose --no-progress -S --sshloginfile --transfer -h --help --version' ;;
         'cbrowse-tree find') words='-f --format -x --standard --prototypes -L --questions --exclude -j --all --force --verbose --no-progress -S --sshloginfile --transfer -h --help --version' ;;
         'cbrowse-cscope') words='-b -l -L -f -i -R -d -P -A --standard -W -h --help --version' ;;
         'cbrowse-graph') words='--callees --callers --depth --nodes --standard -L --exclude -j -h --help --version' ;;
+        'cbrowse-lsp') words='--root --wide --prototypes --max-files --max-file-bytes -h --help --version' ;;
         esac ;;
         *) if [ "$COMP_CWORD" -eq "$at" ]; then case $name in
-        'cbrowse') words='line find tags help' ;;
+        'cbrowse') words='line find tags lsp help' ;;
         'cbrowse find') words='0 1 2 3 4 7 8' ;;
-        'cbrowse help') words='line find tags' ;;
+        'cbrowse help') words='line find tags lsp' ;;
         'cbrowse-tree') words='find' ;;
         'cbrowse-tree find') words='0 1 2 3 4 7 8' ;;
         esac; fi ;;
@@ -81,4 +90,4 @@ _cbrowse() {
     ) ;;
     esac
 }
-complete -F _cbrowse cbrowse cbrowse-tree cbrowse-cscope cbrowse-graph
+complete -F _cbrowse cbrowse cbrowse-tree cbrowse-cscope cbrowse-graph cbrowse-lsp

@@ -134,10 +134,12 @@ def main() -> int:
         "cbrowse line": helped(program, "line"),
         "cbrowse find": helped(program, "find"),
         "cbrowse tags": helped(program, "tags"),
+        "cbrowse lsp": helped(program, "lsp"),
         "cbrowse-tree": helped("cbrowse-tree"),
         "cbrowse-tree find": helped("cbrowse-tree"),
         "cbrowse-cscope": helped("cbrowse-cscope"),
         "cbrowse-graph": helped("cbrowse-graph"),
+        "cbrowse-lsp": helped("cbrowse-lsp"),
     }
     check("help texts have options", all(len(it) >= 2 for it in contexts.values()), contexts)
     with tempfile.TemporaryDirectory() as folder:
@@ -145,7 +147,7 @@ def main() -> int:
         for name in "room", "home", "programs":
             (room.parent / name).mkdir()
         (room.parent / "programs" / "cbrowse").symlink_to(program)
-        for name in "cbrowse-tree", "cbrowse-cscope", "cbrowse-graph":
+        for name in "cbrowse-tree", "cbrowse-cscope", "cbrowse-graph", "cbrowse-lsp":
             (room.parent / "programs" / name).symlink_to(TOP / "editors" / name)
         for name in "a.c", "b.h", "note.txt":
             (room / name).write_text("")
@@ -158,11 +160,15 @@ def main() -> int:
                 found = shell.offers(room, context + " -")
                 check(f"{shell.name}: {context}", found == names, (found, names))
             for line, expected in {
-                "cbrowse ": ["find", "help", "line", "tags"],
+                "cbrowse ": ["find", "help", "line", "lsp", "tags"],
                 "cbrowse find ": FIELDS,
                 "cbrowse-tree find ": [*FIELDS, "a.c", "b.h", "sub"],
                 "cbrowse tags --format ": ["1", "2"],
                 "cbrowse tags ": ["a.c", "b.h", "sub"],
+                "cbrowse lsp ": ["a.c", "b.h", "sub"],
+                "cbrowse lsp --root ": ["sub"],
+                "cbrowse-lsp --root ": ["sub"],
+                "cbrowse-lsp ": [],
                 "cbrowse-graph name ": ["a.c", "b.h", "sub"],
             }.items():
                 found = shell.offers(room, line)
@@ -170,6 +176,8 @@ def main() -> int:
                     is_right = set(expected) <= set(found)
                 elif line == "cbrowse-tree find ":
                     is_right = set(FIELDS) <= set(found) <= set(expected)
+                elif not expected:  # zsh offers options where there is nothing else
+                    is_right = all(it.startswith("-") for it in found)
                 else:
                     is_right = found == expected
                 check(f"{shell.name}: {line}", is_right, (found, expected))

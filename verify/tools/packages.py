@@ -27,7 +27,7 @@ import tempfile
 sys.path.insert(0, str(pathlib.Path(__file__).resolve().parents[1]))
 from shared import TOP, Report, words_given, options  # noqa: E402
 
-PROGRAMS = ("cbrowse", "cbrowse-cscope", "cbrowse-graph", "cbrowse-tree")
+PROGRAMS = ("cbrowse", "cbrowse-cscope", "cbrowse-graph", "cbrowse-lsp", "cbrowse-tree")
 USED = """\
 set -e
 place=$(mktemp -d) && cd "$place"
@@ -37,7 +37,8 @@ cbrowse-tree find 1 main .
 cbrowse-tree -f - . | grep -c '^main'
 cbrowse-graph main . | grep -c ' -> '
 cbrowse-cscope -L -3 add a.c
-man -w cbrowse cbrowse-tree cbrowse-cscope cbrowse-graph | wc -l
+cbrowse-lsp --version | cut -d " " -f 1-3 # there is no /dev/fd, so it cannot serve
+man -w cbrowse cbrowse-tree cbrowse-cscope cbrowse-graph cbrowse-lsp | wc -l
 bash -c '. /usr/share/bash-completion/completions/cbrowse && complete -p cbrowse-tree'
 : >vimrc
 vim -u vimrc -i NONE -n -es -c CbrowseStart -c 'CbrowseDefine add' \\
@@ -52,7 +53,8 @@ a.c main 5 return add(1);
 1
 1
 a.c main 5 return add(1);
-4
+cbrowse-lsp of cbrowse
+5
 complete -F _cbrowse cbrowse-tree
 1
 cbrowse.txt

@@ -1,0 +1,676 @@
+#!/usr/bin/env python3
+"""Edits C files in nvim and emacs, over the language server, and checks what they are told.
+
+    make && verify/editors/servers-in-editors.py
+    verify/editors/servers-in-editors.py --cbrowse PATH --sources FOLDER
+
+nvim and emacs with eglot (tried with those of Debian 12: 0.7.2, and 28.2 with 1.9) start
+`cbrowse-lsp` by themselves, in a folder whose name has a blank and, for nvim, a letter outside
+ASCII. An editor that is not there is passed over. What they have to be told was worked out by hand.
+
+    Tree      a small tree under git. Definitions of functions, also of static ones, of macros in
+              headers and of headers on `#include` lines; hover; symbols of a document and of the
+              workspace. Columns count behind letters outside ASCII. What git ignores is not found,
+              nor are links; a new file is
+    Edits     definitions follow what is typed before it is saved, and go back where it is undone.
+              After a document is closed with its edit thrown away, answers are about the text that
+              was saved, or else opened. So it is with a file that was never on disk
+    Commands  the editor's own command goes to a definition in another file
+    Wide      with --wide a member is found, and without it is not
+    Link      the tree is opened by a link to it, and each definition is there once
+    Quit      no process of the server and no temporary file is left, also where emacs quits without
+              ending its server
+    Sources   with --sources: in some files of a folder, function definitions that a plain reader of
+              lines is sure of are among the symbols, and are found from their names; each place
+              that is told holds the name. What is typed in one file is found from another one
+
+Each request is timed in the editor, and the median and the worst time are printed.
+"""
+
+from __future__ import annotations
+
+import json
+import os
+import pathlib
+import pty
+import re
+import select
+import shutil
+import signal
+import statistics
+import subprocess
+import sys
+import tempfile
+import time
+import urllib.parse
+import uuid
+
+sys.path.insert(0, str(pathlib.Path(__file__).resolve().parents[1]))
+from shared import RESERVED, TOP, Report, c_files, copy, left_over, options, spread  # noqa: E402
+from shared import words_given  # noqa: E402
+
+PATIENCE = 120  # seconds until an editor is given up
+AGAIN = 5  # how often each question is asked
+# eglot 1.9 takes a path outside ASCII, once it is told it, for another folder.
+FOLDERS = {"nvim": "a tree \u00e9", "emacs": "a tree"}
+METHODS = {
+    "definition": "textDocument/definition",
+    "hover": "textDocument/hover",
+    "symbols": "textDocument/documentSymbol",
+    "workspace": "workspace/symbol",
+}
+
+TREE = {
+    ".gitignore": "build/\n",
+    "build/copy.c": "int area(void)\n{\n\treturn 0;\n}\n",
+    "lib/deep/list.h": "enum order { UP, DOWN };\nint grow(int n);\n",
+    "lib/list.c": '#include "deep/list.h"\nint grow(int n)\n{\n\treturn n * 2;\n}\n',
+    "old/shape.h": "int old;\n",
+    "src/main.c": """\
+#include <stdio.h>
+#include "shape.h"
+#include "deep/list.h"
+
+static int helper(int a)
+{
+	return a + SIDES;
+}
+
+int main(void)
+{
+	/* \u00e9 \U0001f388 */ return helper(area(0)) + grow(2);
+}
+""",
+    "src/shape.c": """\
+#include "shape.h"
+static int helper(const struct shape *it)
+{
+	return it->w * it->h;
+}
+int area(const struct shape *it)
+{
+	return helper(it);
+}
+""",
+    "src/shape.h": """\
+#ifndef SHAPE_H
+#define SHAPE_H
+#define SIDES 4
+struct shape {
+	int w, h;
+};
+typedef struct shape shape_t;
+int area(const struct shape *it);
+#endif
+""",
+}
+NEW = {"src/new.c": "int fresh(void)\n{\n\treturn 0;\n}\n"}
+FUNCTION, MACRO, TYPEDEF, STRUCT, ENUM = 12, 14, 5, 23, 10
+
+# Does the steps of the file `STEPS`, and writes what it was told: JSON, with the milliseconds.
+NVIM_SCRIPT = r"""
+local function read(name) return vim.fn.json_decode(table.concat(vim.fn.readfile(name), '')) end
+local given, found, client, id = read(vim.env.STEPS), {}, nil, nil
+local function path(file) return given.root .. '/' .. file end
+local function show(file)
+  local number = vim.fn.bufnr('^' .. vim.loop.fs_realpath(given.root) .. '/' .. file .. '$')
+  vim.cmd(number > 0 and 'buffer ' .. number or 'silent edit ' .. vim.fn.fnameescape(path(file)))
+end
+local function at(step)
+  show(step[2])
+  vim.api.nvim_win_set_cursor(0, {step[3] + 1, step[4]})
+end
+local does = {}
+function does.open(step)
+  show(step[2])
+  vim.bo.filetype = 'c'
+  vim.lsp.buf_attach_client(0, id)
+  vim.wait(30000, function() return vim.lsp.buf_get_clients(0)[id] ~= nil end, 5)
+  client = vim.lsp.get_client_by_id(id)
+end
+function does.type(step)
+  show(step[2])
+  vim.api.nvim_buf_set_lines(0, step[3], step[3], true, step[4])
+  vim.wait(200)  -- it sends what is typed after 150 ms
+end
+function does.undo(step)
+  show(step[2])
+  vim.cmd('silent undo')
+  vim.wait(200)
+end
+function does.save(step) show(step[2]) vim.cmd('silent write') end
+function does.drop(step) vim.cmd('silent bwipeout! ' .. vim.fn.fnameescape(path(step[2]))) end
+function does.jump(step)
+  at(step)
+  vim.lsp.buf.definition()
+  local before = vim.fn.expand('%:p') .. vim.fn.line('.')
+  vim.wait(10000, function() return vim.fn.expand('%:p') .. vim.fn.line('.') ~= before end, 5)
+  local cursor = vim.api.nvim_win_get_cursor(0)
+  return {{vim.fn.expand('%:p'), cursor[1] - 1, cursor[2]}}
+end
+function does.ask(step)
+  local params, times, result
+  if step[3] == 'workspace/symbol' then
+    params = {query = step[4]}
+  else
+    at({'', step[2], step[4] or 0, step[5] or 0})
+    params = vim.lsp.util.make_position_params(0, client.offset_encoding)
+  end
+  times = {}
+  for _ = 1, given.again do
+    local done, began = nil, vim.loop.hrtime()
+    client.request(step[3], params, function(err, answer)
+      done, result = vim.loop.hrtime(), err and {error = err} or answer
+    end, vim.api.nvim_get_current_buf())
+    vim.wait(20000, function() return done ~= nil end, 1)
+    table.insert(times, done and (done - began) / 1e6 or 20000)
+  end
+  return {result == nil and vim.NIL or result, times}
+end
+id = vim.lsp.start_client({
+  name = 'cbrowse', cmd = given.command, cmd_cwd = given.root, root_dir = given.root,
+})
+for _, step in ipairs(given.steps) do
+  local ok, answer = pcall(does[step[1]], step)
+  table.insert(found, ok and (answer or {vim.NIL}) or {'failed: ' .. tostring(answer)})
+end
+vim.fn.writefile({vim.fn.json_encode(found)}, vim.env.FOUND)
+vim.cmd('qall!')
+"""
+
+# The same in emacs. An idle timer sends what is typed after 0.5 s, so each step is a timer of its
+# own, and emacs waits for keys between two.
+EMACS_SCRIPT = r"""
+(setq native-comp-deferred-compilation nil)
+(require 'json)
+(require 'eglot)
+(setq make-backup-files nil auto-save-default nil create-lockfiles nil vc-follow-symlinks t
+      inhibit-message t eglot-confirm-server-initiated-edits nil enable-local-variables nil)
+(defvar given (let ((json-array-type 'list)) (json-read-file (getenv "STEPS"))))
+(defun of (name) (alist-get name given))
+(defun path (file) (concat (of 'root) "/" file))
+(defun show (file) (switch-to-buffer (find-file-noselect (path file))))
+(defun at (file line column)
+  (show file)
+  (goto-char (point-min))
+  (forward-line line)
+  (goto-char (byte-to-position (+ (position-bytes (point)) column))))
+(add-to-list 'eglot-server-programs (cons 'c-mode (of 'command)))
+(defun open (file)
+  (show file)
+  (unless (eglot-current-server)
+    (let ((eglot-sync-connect 30)) (apply #'eglot--connect (eglot--guess-contact)))))
+(defun type (file line lines)
+  (at file line 0)
+  (undo-boundary)
+  (insert (mapconcat #'identity lines "\n") "\n")
+  (undo-boundary))
+(defun undo-it (file) (show file) (setq last-command nil) (undo))
+(defun save (file) (show file) (save-buffer))
+(defun drop (file) (show file) (set-buffer-modified-p nil) (kill-buffer))
+(defun jump (file line column)
+  (at file line column)
+  (xref-find-definitions "LSP identifier at point.")
+  (vector (vector buffer-file-name (1- (line-number-at-pos))
+                  (- (position-bytes (point)) (position-bytes (line-beginning-position))))))
+(defun ask (file method &optional line column)
+  (let (result times)
+    (if (stringp line) (show file) (at file (or line 0) (or column 0)))
+    (dotimes (_ (of 'again))
+      (let ((began (float-time)))
+        (setq result (jsonrpc-request
+                      (eglot-current-server) (intern (concat ":" method))
+                      (if (stringp line) (list :query line) (eglot--TextDocumentPositionParams))))
+        (push (* 1000 (- (float-time) began)) times)))
+    (vector result (vconcat times))))
+(defun step-done (step)
+  (let ((does (intern (if (equal (car step) "undo") "undo-it" (car step)))))
+    (condition-case why
+        (let ((answer (apply does (cdr step)))) (if (vectorp answer) answer [nil]))
+      (error (vector (format "failed: %S" why))))))
+(defvar steps (of 'steps))
+(defvar found nil)
+(defun next-step ()
+  (let ((step (pop steps)))
+    (push (step-done step) found)
+    (run-with-timer (if (member (car step) '("type" "undo")) 0.7 0.01) nil
+                    (if steps #'next-step #'all-done))))
+(defun all-done ()
+  (with-temp-file (getenv "FOUND")
+    (set-buffer-multibyte nil)
+    (insert (encode-coding-string (jsonrpc--json-encode (vconcat (nreverse found))) 'utf-8)))
+  (dolist (buffer (buffer-list)) (with-current-buffer buffer (set-buffer-modified-p nil)))
+  (when (equal (of 'end) "shutdown") (eglot-shutdown-all))
+  (dolist (process (process-list)) (set-process-query-on-exit-flag process nil))
+  (kill-emacs))
+(run-with-timer 0.1 nil #'next-step)
+"""
+
+
+class Counted(Report):
+    """Counts what passes, too."""
+
+    passed = 0
+
+    def check(self, what: str, is_right: bool, said: object = "") -> None:
+        self.passed += bool(is_right)
+        super().check(what, is_right, said)
+
+    def equal(self, what: str, expected: object, found: object) -> None:
+        self.check(what, expected == found, f"expected {expected}, found {str(found)[:400]}")
+
+    def status(self) -> int:
+        print(f"{self.passed} passed, {self.failures} failed", flush=True)
+        return 1 if self.failures else 0
+
+
+report = Counted()
+times: dict[tuple[str, str, str], list[tuple[float, str]]] = {}
+
+
+# ---- what an editor is told to do
+
+
+class Plan:
+    """Steps, and what each of them has to be answered with."""
+
+    def __init__(self, root: pathlib.Path, words: tuple[str, ...] = (), end: str = "shutdown"):
+        self.root, self.words, self.end = root, words, end
+        self.steps: list[list] = []
+        self.expected: list = []  # a pair of a text and a value or a test; None: not looked at
+
+    def do(self, what: str, *words: object) -> None:
+        self.steps.append([what, *words])
+        self.expected.append(None)
+
+    def jump(self, file: str, line: int, column: int, expected: list) -> None:
+        self.steps.append(["jump", file, line, column])
+        self.expected.append((f"the command at {file}:{line}:{column}", expected))
+
+    def ask(self, what: str, file: str, *words: object, is_now: object) -> None:
+        """A question about a place, by its line and its column in bytes, a file, or a name."""
+        self.steps.append(["ask", file, METHODS[what], *words])
+        place = ":".join(map(str, words if what == "workspace" else [file, *words]))
+        self.expected.append((f"{what} {place}", is_now))
+
+
+def questions(plan: Plan) -> None:
+    """What stands in the files of the tree."""
+    main, shape, header = "src/main.c", "src/shape.c", "src/shape.h"
+    plan.do("open", main)
+    for line, column, places in [
+        (11, 29, [(shape, 5, 4, 8)]),  # area
+        (11, 33, [(shape, 5, 4, 8)]),  # the place at its end
+        (11, 22, [(main, 4, 11, 17)]),  # helper, static in two files
+        (11, 40, [("lib/list.c", 1, 4, 8)]),  # grow
+        (6, 12, [(header, 2, 8, 13)]),  # SIDES
+        (1, 12, [(header, 0, 0, 0)]),  # "shape.h", which is beside and in the folder old too
+        (2, 15, [("lib/deep/list.h", 0, 0, 0)]),
+        (0, 12, []),  # <stdio.h>
+        (3, 0, []),  # no word
+        (11, 15, []),  # return
+    ]:
+        plan.ask("definition", main, line, column, is_now=places)
+    area = "src/shape.c:6\nint area(const struct shape *it)"
+    plan.ask("hover", main, 11, 29, is_now=(area, 11, 26, 30))
+    helper = "src/main.c:5\nstatic int helper(int a)"
+    plan.ask("hover", main, 11, 22, is_now=(helper, 11, 19, 25))
+    plan.ask("hover", main, 11, 15, is_now=None)
+    plan.ask("symbols", main, is_now=[("helper", FUNCTION, 4, 11), ("main", FUNCTION, 9, 4)])
+    both = [("helper", FUNCTION, main, 4, 11), ("helper", FUNCTION, shape, 1, 11)]
+    plan.ask("workspace", main, "helper", is_now=both)
+    guard = ("SHAPE_H", MACRO, header, 1, 8)
+    struct, typedef = ("shape", STRUCT, header, 3, 7), ("shape_t", TYPEDEF, header, 6, 21)
+    plan.ask("workspace", main, "shape", is_now=[struct, guard, typedef])
+    plan.ask("workspace", main, "SHAPE", is_now=[guard, struct, typedef])
+    plan.ask("workspace", main, "area", is_now=[("area", FUNCTION, shape, 5, 4)])
+    plan.ask("workspace", main, "fresh", is_now=[("fresh", FUNCTION, "src/new.c", 0, 4)])
+    plan.ask("workspace", main, "order", is_now=[("order", ENUM, "lib/deep/list.h", 0, 5)])
+    plan.ask("workspace", main, "nowhere", is_now=[])
+    plan.do("open", shape)
+    plan.ask("definition", shape, 7, 8, is_now=[(shape, 1, 11, 17)])
+    plan.ask("definition", shape, 3, 12, is_now=[])  # a member
+    plan.jump(main, 11, 29, [(shape, 5, 4)])
+    plan.jump(main, 6, 12, [(header, 2, 8)])
+    plan.jump(shape, 7, 8, [(shape, 1, 11)])
+
+
+def edits(plan: Plan) -> None:
+    """What is typed, saved, undone and thrown away, after the questions."""
+    main, shape, header = "src/main.c", "src/shape.c", "src/shape.h"
+    plan.do("type", shape, 5, ["int extra(int n)", "{", "\treturn n;", "}", ""])
+    plan.ask("definition", main, 11, 29, is_now=[(shape, 10, 4, 8)])
+    plan.ask("workspace", main, "extra", is_now=[("extra", FUNCTION, shape, 5, 4)])
+    told = [("helper", FUNCTION, 1, 11), ("extra", FUNCTION, 5, 4), ("area", FUNCTION, 10, 4)]
+    plan.ask("symbols", shape, is_now=told)
+    extra = "src/shape.c:6\nint extra(int n)"
+    plan.ask("hover", shape, 5, 4, is_now=(extra, 5, 4, 9))
+    plan.jump(main, 11, 29, [(shape, 10, 4)])
+    plan.do("open", header)
+    plan.do("type", header, 2, ["#define EXTRA 1"])
+    plan.ask("definition", main, 6, 12, is_now=[(header, 3, 8, 13)])
+    plan.do("save", shape)
+    plan.ask("definition", main, 11, 29, is_now=[(shape, 10, 4, 8)])
+    plan.do("type", shape, 0, ["/* \u00e9 */"])
+    plan.ask("definition", main, 11, 29, is_now=[(shape, 11, 4, 8)])
+    plan.do("drop", shape)
+    plan.ask("definition", main, 11, 29, is_now=[(shape, 10, 4, 8)])
+    plan.do("drop", header)
+    plan.ask("definition", main, 6, 12, is_now=[(header, 2, 8, 13)])
+    plan.do("type", main, 4, ["static int area(int a) { return a; }"])
+    plan.ask("definition", main, 12, 29, is_now=[(main, 4, 11, 15)])
+    plan.do("undo", main)
+    plan.ask("definition", main, 11, 29, is_now=[(shape, 10, 4, 8)])
+    plan.do("open", "src/brand.c")
+    plan.do("type", "src/brand.c", 0, ["int brandish(void) { return 0; }"])
+    brand = [("brandish", FUNCTION, "src/brand.c", 0, 4)]
+    plan.ask("workspace", main, "brandish", is_now=brand)
+    plan.do("drop", "src/brand.c")
+    plan.ask("workspace", main, "brandish", is_now=[])
+    plan.do("open", shape)
+    plan.ask("definition", main, 11, 29, is_now=[(shape, 10, 4, 8)])
+
+
+# ---- what an editor was told
+
+
+def path_of(uri: str, root: pathlib.Path) -> str:
+    path = urllib.parse.unquote(uri.removeprefix("file://"))
+    return path.removeprefix(f"{root}/")
+
+
+def place_of(location: dict, root: pathlib.Path) -> tuple:
+    begin = location["range"]["start"]
+    return path_of(location["uri"], root), begin["line"], begin["character"]
+
+
+def plain(method: str, told: object, root: pathlib.Path) -> object:
+    """An answer in the form in which it is expected."""
+    if method == "jump":
+        return [(path_of(path, root), line, column) for path, line, column in [told]]
+    if told is None or not isinstance(told, (list, dict)) or "error" in told:
+        return told
+    if method.endswith("definition"):
+        return [(*place_of(it, root), it["range"]["end"]["character"]) for it in told]
+    if method.endswith("hover"):
+        begin, end = told["range"]["start"], told["range"]["end"]
+        return told["contents"]["value"], begin["line"], begin["character"], end["character"]
+    if method.startswith("workspace"):
+        return [(it["name"], it["kind"], *place_of(it["location"], root)) for it in told]
+    begins = [(it, it["selectionRange"]["start"]) for it in told]
+    return [(it["name"], it["kind"], at["line"], at["character"]) for it, at in begins]
+
+
+def marked(mark: str) -> list[str]:
+    """The processes that have this mark in their environment."""
+    found = []
+    for place in pathlib.Path("/proc").glob("[0-9]*"):
+        try:
+            if mark.encode() in (place / "environ").read_bytes():
+                words = (place / "cmdline").read_bytes().replace(b"\0", b" ").decode()
+                found += [f"{place.name} {words}"] if words else []
+        except OSError:
+            pass
+    return found
+
+
+class Editor:
+    """Runs plans in an editor."""
+
+    def __init__(self, name: str, cbrowse: str, room: pathlib.Path):
+        self.name, self.room = name, room
+        self.mark = f"cbrowse-mark-{uuid.uuid4()}"
+        for folder in "home", "temporary":
+            (room / folder).mkdir()
+        self.env = {
+            **os.environ,
+            "PATH": f"{TOP / 'editors'}:{os.environ['PATH']}",
+            "CBROWSE": cbrowse,
+            "HOME": str(room / "home"),
+            "TMPDIR": str(room / "temporary"),
+            "LANG": "C.UTF-8",
+            "LC_ALL": "C.UTF-8",
+            "TERM": "vt100",
+            "STEPS": str(room / "steps"),
+            "FOUND": str(room / "found"),
+            "MARK": self.mark,
+        }
+
+    def words(self) -> list[str]:
+        if self.name == "nvim":
+            return ["nvim", "--headless", "-u", "NONE", "-i", "NONE", "-n", "-c", "luafile"]
+        return ["emacs", "-nw", "-q", "--no-splash", "-l"]
+
+    def run_in_terminal(self, words: list[str], folder: pathlib.Path) -> None:
+        """emacs sends what is typed only while it waits for keys, so it gets a terminal."""
+        pid, master = pty.fork()
+        if pid == 0:
+            os.chdir(folder)
+            os.execvpe(words[0], words, {**self.env, "PWD": str(folder)})
+        end = time.monotonic() + PATIENCE
+        while time.monotonic() < end:
+            try:
+                if select.select([master], [], [], 0.1)[0] and not os.read(master, 65536):
+                    break
+            except OSError:  # the other side is gone
+                break
+        else:
+            os.kill(pid, signal.SIGKILL)
+        os.waitpid(pid, 0)
+        os.close(master)
+
+    def run(self, plan: Plan) -> list:
+        """Runs it in the folder of the plan, with the name that a shell gives that folder."""
+        script = self.room / ("script.lua" if self.name == "nvim" else "script.el")
+        script.write_text(NVIM_SCRIPT if self.name == "nvim" else EMACS_SCRIPT)
+        given = {
+            "root": str(plan.root),
+            "command": ["cbrowse-lsp", *plan.words],
+            "again": AGAIN,
+            "steps": plan.steps,
+            "end": plan.end,
+        }
+        (self.room / "steps").write_text(json.dumps(given))
+        (self.room / "found").unlink(missing_ok=True)
+        words = self.words()
+        if self.name == "nvim":
+            words[-1] += f" {script}"
+            subprocess.run(
+                words,
+                cwd=plan.root,
+                env={**self.env, "PWD": str(plan.root)},
+                timeout=PATIENCE,
+                stdin=subprocess.DEVNULL,
+                capture_output=True,
+            )
+        else:
+            self.run_in_terminal([*words, str(script)], plan.root)
+        found = self.room / "found"
+        return json.loads(found.read_text()) if found.exists() else []
+
+    def check(self, part: str, plan: Plan) -> None:
+        """Runs a plan, compares each answer, and looks for what is left behind."""
+        what = f"{self.name}, {part}"
+        found = self.run(plan)
+        report.equal(f"{what}: steps done", len(plan.steps), len(found))
+        root = plan.root.resolve()
+        for step, expected, told in zip(plan.steps, plan.expected, found):
+            if expected is None:
+                if told[0] is not None:
+                    report.check(f"{what}: {step[0]} {step[1]}", False, told[0])
+                continue
+            method = step[2] if step[0] == "ask" else "jump"
+            is_text = isinstance(told[0], str)
+            answer = told[0] if is_text else plain(method, told[0], root)
+            text, value = expected
+            if callable(value):
+                report.check(f"{what}: {text}", not is_text and value(answer), answer)
+            else:
+                report.equal(f"{what}: {text}", value, answer)
+            if step[0] == "ask" and not is_text:
+                timed = times.setdefault((self.name, part, method), [])
+                timed.extend((it, text) for it in told[1])
+        left = marked(self.mark)
+        end = time.monotonic() + 5
+        while left and time.monotonic() < end:
+            time.sleep(0.05)
+            left = marked(self.mark)
+        report.equal(f"{what}: processes left", [], left)
+        report.equal(f"{what}: temporary files left", [], left_over(self.room / "temporary"))
+
+
+# ---- the parts
+
+
+def make_tree(root: pathlib.Path) -> None:
+    def write(files):
+        for name, text in files.items():
+            (root / name).parent.mkdir(parents=True, exist_ok=True)
+            (root / name).write_text(text)
+
+    def git(*words):
+        settings = ["-c", "user.name=a", "-c", "user.email=a@b.c", "-c", "init.defaultBranch=main"]
+        subprocess.run(["git", *settings, *words], cwd=root, check=True, capture_output=True)
+
+    write(TREE)
+    (root / "src/link.c").symlink_to("shape.c")
+    git("init")
+    git("add", "--all")
+    git("commit", "-m", "A tree")
+    write(NEW)
+
+
+def by_hand(editor: Editor) -> None:
+    """All parts over the small tree."""
+    root = editor.room / FOLDERS[editor.name]
+    root.mkdir()
+    make_tree(root)
+    plan = Plan(root)
+    questions(plan)
+    edits(plan)
+    editor.check("tree", plan)
+    saved = (root / "src/shape.c").read_text()
+    lines = TREE["src/shape.c"].splitlines(keepends=True)
+    typed = ["int extra(int n)\n", "{\n", "\treturn n;\n", "}\n", "\n"]
+    what = f"{editor.name}, tree: the file on disk is the one that was saved"
+    report.equal(what, "".join([*lines[:5], *typed, *lines[5:]]), saved)
+    plan = Plan(root, ("--wide",), "quit")
+    plan.do("open", "src/shape.c")
+    plan.ask("definition", "src/shape.c", 3, 12, is_now=[("src/shape.h", 4, 5, 6)])
+    editor.check("wide", plan)
+    (editor.room / "way").symlink_to(root)
+    plan = Plan(editor.room / "way", (), "quit")
+    plan.do("open", "src/main.c")
+    plan.do("open", "src/shape.c")
+    plan.ask("definition", "src/main.c", 11, 29, is_now=[("src/shape.c", 10, 4, 8)])
+    plan.do("type", "src/shape.c", 0, ["/* */"])
+    plan.ask("definition", "src/main.c", 11, 29, is_now=[("src/shape.c", 11, 4, 8)])
+    editor.check("link", plan)
+
+
+def sure(text: str) -> list[tuple[str, int, int]]:
+    """Names of functions that are defined on a line of their own before a line `{`."""
+    lines = text.split("\n")
+    found = []
+    for number in range(1, len(lines) - 1):
+        begin = re.fullmatch(r"((?:[a-z]\w* )*[a-z]\w* \**)([a-z]\w*)\(([\w *,]*)\)", lines[number])
+        is_after = re.fullmatch(r"|\}|.*\*/", lines[number - 1])
+        if begin and is_after and lines[number + 1] == "{" and begin[2] not in RESERVED:
+            if not begin[1].startswith(("else ", "return ")):
+                found.append((begin[2], number, len(begin[1])))
+    return found
+
+
+def on_sources(editor: Editor, folder: pathlib.Path, number: int) -> None:
+    root = editor.room / "sources"
+    sizes = c_files(folder, form="[!-,.-~][!-~]*", most=4096)
+    copy(folder, sizes, root)
+    subprocess.run(["git", "init", "--quiet"], cwd=root, check=True)
+    texts = {}
+    for name in sizes:
+        try:
+            texts[name] = (root / name).read_bytes().decode()
+        except UnicodeDecodeError:
+            continue
+    plain_ones = {name: sure(text) for name, text in texts.items() if "\r" not in text}
+    names = spread((name for name, it in plain_ones.items() if it), number)
+    print(f"{editor.name}, sources: {len(sizes)} files, of which {len(names)} are opened")
+    plan = Plan(root)
+
+    def holds(word):
+        def is_right(told):
+            return bool(told) and all(named(root, place) == word for place in told)
+
+        return is_right
+
+    for name in names:
+        functions = spread(plain_ones[name], 4)
+        plan.do("open", name)
+        begins = {(word, FUNCTION, line, column) for word, line, column in functions}
+        plan.ask("symbols", name, is_now=lambda told, all=begins: all <= set(map(tuple, told)))
+        for word, line, column in functions:
+            here = (name, line, column, column + len(word))
+
+            def is_there(told, here=here, word=word):
+                return holds(word)(told) and here in map(tuple, told)
+
+            plan.ask("definition", name, line, column, is_now=is_there)
+            plan.ask("hover", name, line, column, is_now=lambda told: bool(told))
+            is_named = lambda told, word=word: bool(told) and told[0][0] == word  # noqa: E731
+            plan.ask("workspace", name, word, is_now=is_named)
+    first, last = names[0], names[-1]
+    for file, text in (first, "int cbrowse_is_here(void) { return 0; }"), (last, "CALL"):
+        text = text.replace("CALL", "int cbrowse_asks(void) { return cbrowse_is_here(); }")
+        plan.do("type", file, 0, [text])
+    if first != last:
+        plan.ask("definition", last, 0, 36, is_now=[(first, 0, 4, 19)])
+        plan.do("drop", first)
+        plan.ask("definition", last, 0, 36, is_now=[])
+    editor.check("sources", plan)
+
+
+def named(root: pathlib.Path, place: tuple) -> str:
+    """The text at a place on disk; columns are UTF-16 units."""
+    name, line, begin, end = place
+    text = (root / name).read_bytes().split(b"\n")[line].decode("utf-8", "replace")
+    return text.encode("utf-16-le")[2 * begin : 2 * end].decode("utf-16-le", "replace")
+
+
+def is_there(name: str) -> bool:
+    if not shutil.which(name):
+        return False
+    if name == "nvim":
+        return True
+    loads = "(progn (require 'eglot) (princ 'loaded))"
+    done = subprocess.run([name, "--batch", "--eval", loads], capture_output=True)
+    return b"loaded" in done.stdout
+
+
+def main() -> int:
+    parser = options(__doc__)
+    parser.add_argument(
+        "--sources", type=pathlib.Path, metavar="FOLDER", help="a folder of C files"
+    )
+    parser.add_argument("--files", type=int, default=12, help="how many of them are opened")
+    parser.add_argument("--editor", choices=["nvim", "emacs"], help="this one alone")
+    words = words_given(parser)
+    for name in [words.editor] if words.editor else ["nvim", "emacs"]:
+        if not is_there(name):
+            print(f"{name}{' with eglot' if name == 'emacs' else ''}: not installed, passed over")
+            continue
+        said = subprocess.run([name, "--version"], capture_output=True, text=True)
+        print(said.stdout.splitlines()[0])
+        with tempfile.TemporaryDirectory() as place:
+            editor = Editor(name, words.cbrowse, pathlib.Path(place).resolve())
+            by_hand(editor)
+            if words.sources:
+                on_sources(editor, words.sources.resolve(), words.files)
+    for (name, part, method), timed in times.items():
+        half, (worst, where) = statistics.median(it for it, _ in timed), max(timed)
+        print(f"{name}, {part}, {method}: {half:.2f} ms in the middle of {len(timed)},", end=" ")
+        print(f"worst {worst:.2f} ms ({where})")
+    return report.status()
+
+
+if __name__ == "__main__":
+    sys.exit(main())

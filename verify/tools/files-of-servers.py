@@ -1,0 +1,195 @@
+#!/usr/bin/env python3
+"""Runs editors/cbrowse-lsp in folders with odd names, and looks at what the program is given.
+
+    make && verify/tools/files-of-servers.py
+    verify/tools/files-of-servers.py --cbrowse PATH
+
+Git     files that git knows and new ones are listed, also those of a submodule; ignored and
+        deleted ones and links are not. A folder in which git knows nothing is listed as it is
+Odd     names with signs of a shell are listed. Names with a blank, outside ASCII or too long, and
+        files that are too large are left out, and told with how many they are
+Bounds  --max-files and --max-file-bytes leave out more, and are handed on with --wide
+Root    is the folder without links in its path; --root names another one
+Input   what the editor writes is what the program reads, to the byte
+Ends    an editor that shuts the server down gets status 0, and one that goes away 1; wrong words
+        get 2, no such folder or program 1. No temporary file is left
+Many    4,096 files are listed in 0.3 s, of three times the fastest
+"""
+
+from __future__ import annotations
+
+import os
+import pathlib
+import subprocess
+import sys
+import tempfile
+import time
+
+sys.path.insert(0, str(pathlib.Path(__file__).resolve().parents[1]))
+from shared import Place, Report, left_over, options, words_given  # noqa: E402
+
+SPY = """\
+#!/bin/sh
+printf '%s\\n' "$*"
+while IFS= read -r name <&4; do printf '%s\\n' "$name"; done
+cat
+"""
+SIGNS = ("-x.c", "*.c", "[a].c", "b\\c.c", "q'.c", 'q".h', "$(id).c", "!.c", "(.c", ",.h", ".c")
+report = Report()
+check = report.check
+
+
+def git(folder: pathlib.Path, *words: str) -> None:
+    settings = ("user.name=a", "user.email=a@b.c", "protocol.file.allow=always")
+    given = [word for it in settings for word in ("-c", it)]
+    subprocess.run(["git", *given, *words], cwd=folder, check=True, capture_output=True)
+
+
+class Spied(Place):
+    """Runs with a program that tells its words, its list and its input."""
+
+    def listed(self, *words: object, **how) -> tuple[list[str], str, str]:
+        """The names of the list, the words of the program, and standard error."""
+        status, out, said = self.run(*words, CBROWSE=self.folder / "spy", **how)
+        check(f"status of {words}", status == 0, said)
+        first, *names = out.decode(errors="surrogateescape").splitlines()
+        return names, first, said
+
+
+def left(*counts: object) -> str:
+    reasons = ", ".join(f"{counts[i]} {counts[i + 1]}" for i in range(0, len(counts), 2))
+    return f"cbrowse-lsp: files left out: {reasons}\n"
+
+
+def in_git(place: Spied) -> None:
+    for name in "a.c", "sub/b.h", "gone.c", "ignored/i.c", "note.txt":
+        place.put(f"git/{name}")
+    place.put("git/.gitignore", "ignored\n")
+    place.put("other/s.c")
+    (place.folder / "git/link.c").symlink_to("a.c")
+    for name in "other", "git":
+        git(place.folder / name, "init")
+        git(place.folder / name, "add", "--all")
+        git(place.folder / name, "commit", "-m", "Files")
+    git(place.folder / "git", "submodule", "add", "../other", "module")
+    place.put("git/late.c")
+    (place.folder / "git/gone.c").unlink()
+    names, _, said = place.listed(below="git")
+    check("git", (names, said) == (["a.c", "late.c", "module/s.c", "sub/b.h"], ""), (names, said))
+    names, _, said = place.listed(below="git/sub")
+    check("a folder of git", (names, said) == (["b.h"], ""), (names, said))
+    names, _, said = place.listed(below="git/ignored")
+    check("a folder that git ignores", (names, said) == (["i.c"], ""), (names, said))
+
+
+def odd_names(place: Spied) -> None:
+    for name in SIGNS + ("a b.c", "\u00e9.c", "d/" + "n" * 252 + ".c"):
+        place.put(f"odd/{name}")
+    (place.folder / "odd/d.c").mkdir()
+    (place.folder / "odd/large.c").write_bytes(b"\n" * 1_000_001)
+    (place.folder / "odd/fits.c").write_bytes(b"\n" * 1_000_000)
+    told = left(3, "with a bad name", 1, "too large or not to be read")
+    expected = sorted((*SIGNS, "fits.c"))
+    for what in "without git", "with git":
+        names, _, said = place.listed(below="odd")
+        check(f"odd names, {what}", (names, said) == (expected, told), (names, said))
+        git(place.folder / "odd", "init")
+    place.put("odd/line\nfeed.c")
+    names, _, said = place.listed(below="odd")
+    check("a line feed in a name", (names, said) == (expected, told), (names, said))
+
+
+def bounds(place: Spied) -> None:
+    for name in "a.c", "b.c", "c.c":
+        place.put(f"bounds/{name}", "x" * (9 if name == "b.c" else 10))
+    many = "over 2 (--max-files N takes more)"
+    for words, files, told in [
+        (("--max-files", 2), ["a.c", "b.c"], left(1, many)),
+        (("--max-files=2",), ["a.c", "b.c"], left(1, many)),
+        (("--max-file-bytes", 9), ["b.c"], left(2, "too large or not to be read")),
+        (("--wide", "--prototypes"), ["a.c", "b.c", "c.c"], ""),
+    ]:
+        names, given, said = place.listed(*words, below="bounds")
+        check(f"{words}", (names, said) == (files, told), (names, said))
+        handed = "=".join(map(str, words)) if words[0] != "--wide" else " ".join(words)
+        check(f"{words} handed on", f" {handed} " in given, given)
+
+
+def roots(place: Spied) -> None:
+    folder = place.folder.resolve() / "root \u00e9"
+    place.put("root \u00e9/a.c")
+    (place.folder / "way").symlink_to(folder)
+    names, given, _ = place.listed(below="way", PWD=place.folder / "way")
+    check("a link to the root", f"--root {folder} " in given and names == ["a.c"], given)
+    names, given, _ = place.listed("--root", place.folder / "way", CDPATH="/")
+    check("--root", f"--root {folder} " in given and names == ["a.c"], given)
+
+
+def input_and_ends(place: Spied) -> None:
+    place.put("ends/a.c")
+    room = place.folder / "room"
+    room.mkdir()
+    names, _, _ = place.listed(below="ends", stdin="one\ntwo\n", TMPDIR=room)
+    check("standard input", names == ["a.c", "one", "two"], names)
+
+    def framed(*bodies):
+        return "".join(f"Content-Length: {len(it)}\r\n\r\n{it}" for it in bodies)
+
+    begin = '{"id":0,"method":"initialize","params":{}}'
+    down, gone = '{"id":1,"method":"shutdown"}', '{"method":"exit"}'
+    for bodies, expected in [((begin, down, gone), 0), ((begin, down), 0), ((begin, gone), 1)]:
+        status, out, said = place.run(below="ends", stdin=framed(*bodies), TMPDIR=room)
+        check(f"{len(bodies)} messages", (status, said) == (expected, ""), (status, said))
+        check("a reply to the first", b'"definitionProvider":true' in out, out)
+    for words, expected, told in [
+        (("--max-files",), 2, "cbrowse-lsp: --max-files needs a value\n"),
+        (("--max-files", "x"), 2, "cbrowse-lsp: x: a number from 1 up is needed\n"),
+        (("--standard",), 2, "cbrowse-lsp: --standard: no such option\n"),
+        (("a.c",), 2, "cbrowse-lsp: a.c: no such option\n"),
+        (("--root", "nowhere"), 1, "cbrowse-lsp: nowhere: no such folder\n"),
+    ]:
+        status, _, said = place.run(*words, below="ends", TMPDIR=room)
+        check(f"wrong words {words}", (status, said) == (expected, told), (status, said))
+    status, _, said = place.run(below="ends", CBROWSE="/nowhere/cbrowse")
+    told = "cbrowse-lsp: /nowhere/cbrowse: no such program\n"
+    check("no program", (status, said) == (1, told), (status, said))
+    status, out, said = place.run("--version")
+    check("--version", status == 0 and out.startswith(b"cbrowse-lsp of cbrowse "), out)
+    status, out, said = place.run("--help")
+    check("--help", status == 0 and out.startswith(b"cbrowse-lsp [OPTION..]\n"), out)
+    check("temporary files", left_over(room) == [], os.listdir(room))
+
+
+def many(place: Spied) -> None:
+    for number in range(4097):
+        (place.folder / f"many/{number // 100}").mkdir(parents=True, exist_ok=True)
+        (place.folder / f"many/{number // 100}/source_{number}.c").write_text("int x;\n")
+    git(place.folder / "many", "init")
+    git(place.folder / "many", "add", "--all")
+    taken = []
+    for _ in range(3):
+        began = time.monotonic()
+        names, _, said = place.listed(below="many")
+        taken.append(time.monotonic() - began)
+    told = left(1, "over 4096 (--max-files N takes more)")
+    check("4,097 files", (len(names), said) == (4096, told), (len(names), said))
+    check(f"in {min(taken):.2f} s", min(taken) <= 0.3)
+
+
+def main() -> int:
+    cbrowse = words_given(options(__doc__)).cbrowse
+    with tempfile.TemporaryDirectory() as folder:
+        place = Spied(folder, cbrowse, "cbrowse-lsp")
+        (place.folder / "spy").write_text(SPY)
+        (place.folder / "spy").chmod(0o755)
+        in_git(place)
+        odd_names(place)
+        bounds(place)
+        roots(place)
+        input_and_ends(place)
+        many(place)
+    return report.status()
+
+
+if __name__ == "__main__":
+    sys.exit(main())
