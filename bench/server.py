@@ -26,6 +26,7 @@ change    `didChange` of a document of 50 kB and of one of 1 MB, each time anoth
           a document that is not open, which is read and passed over. Then the most that is
           resident, beside what it was before.
 memory    What is resident after 20 and after 2,000 changes of a document of 50 kB.
+line      `documentSymbol` of a text of one line, `f(){}` again and again, and of one twice as long.
 clangd    The same of clangd with twenty of the files, where it is installed. There is no
           `compile_commands.json`, so it knows the open documents and what they include, as far as
           it finds that. It is asked about one file after another, since it keeps few of them
@@ -65,8 +66,9 @@ FEW_CHANGES = 10
 LINES = 1000
 SIZES = {"50 kB": 50_000, "1 MB": 990_000}
 MANY_CHANGES = 20, 2000
+LONG_LINES = 12_500, 25_000  # bytes
 MOST_CHANGES = 65_537
-PARTS = "ready", "ask", "change", "memory", "clangd"
+PARTS = "ready", "ask", "change", "memory", "line", "clangd"
 TINY, TINY_TEXT = "tiny.c", "int tiny(void) {\n}\n"
 BIG = "big.c"
 NAME = re.compile(rb"[A-Za-z_]\w+")
@@ -403,6 +405,16 @@ def memory(cbrowse, names, folder):
     server.end()
 
 
+def line(cbrowse, folder):
+    """Symbols of a text of one line."""
+    server = Server([cbrowse, "lsp"], folder)
+    for size in LONG_LINES:
+        text = "f(){}" * (size // 5)
+        server.open(BIG, text)
+        put_all(f"documentSymbol, {size:,} in a line", server, [server.symbols(BIG)] * RUNS)
+    server.end()
+
+
 def most_changes(cbrowse, names, folder):
     """More changes than a session can undo."""
     server = Server([cbrowse, "lsp", "--"] + names[: MOST_FILES - 2], folder)
@@ -484,6 +496,8 @@ def main():
             change(given.cbrowse, names, folder)
         if "memory" in parts:
             memory(given.cbrowse, names, folder)
+        if "line" in parts:
+            line(given.cbrowse, folder)
         if "clangd" in parts:
             clangd(names, folder, there, dice)
         if given.most_changes:
