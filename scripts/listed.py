@@ -29,6 +29,7 @@ NEEDS: dict[str, Callable[[], bool]] = {
     "universal-ctags": lambda: says(["ctags", "--version"], "Universal Ctags"),
     "python3-clang-14": lambda: says(["/usr/bin/python3", "-c", CLANG], "loaded"),
     "cscope": lambda: says(["cscope", "-V"], "version"),
+    "clangd": lambda: says(["clangd", "--version"], "clangd"),
     "ripgrep": lambda: says(["rg", "--version"], "ripgrep"),
     "vim-nox": lambda: says(["vim", "--version"], "+cscope")
     and says(["vim", "--version"], "+channel"),
