@@ -3,6 +3,7 @@ pub mod Asked
 pub mod Closed
 pub mod DocumentPlaces
 pub mod Events
+pub mod FileSymbols
 pub mod Headers
 pub mod HoverTexts
 pub mod Items
@@ -10,6 +11,7 @@ pub mod Judged
 pub mod Likes
 pub mod Listed
 pub mod ManyTurns
+pub mod Marks
 pub mod NoText
 pub mod Notices
 pub mod Numbers

@@ -1,3 +1,4 @@
+pub mod Columns
 pub mod Elements
 pub mod Meanings
 pub mod Noted

@@ -30,6 +30,7 @@ ghost use Rattle.cb_lsp.specs.steps.Meanings.{meaning_left};
 
 use crate::header::{header_at, is_beside, without_dots};
 use crate::hover::{Hovers, MOST_HOVERS};
+use crate::columns::Positions;
 use crate::location::{Forms, range_of};
 use crate::meaning::Meaning;
 use crate::place::bytes_of;
@@ -116,9 +117,9 @@ impl<'a> FileAsked<'a> {
             self.now.source.now) self.now.facts.now.defs))))) }
     {
         let defs = FileDefs {
-            forms: self.forms,
+            root: self.forms.root,
             file: self.name,
-            source: self.source,
+            positions: Positions::new(self.forms.encoding, self.source),
             rest: self.facts.defs(),
         };
         if self.forms.tree {

@@ -7,7 +7,7 @@ ghost use Rattle.cb_lsp.specs.Places.{range_of, start_of_file};
 ghost use Rattle.cb_lsp.specs.Symbols.{file_place, place_of};
 ghost use Rattle.cb_lsp.specs.steps.Elements.{client_in};
 
-use crate::place::range_in;
+use crate::columns::Positions;
 use cb_desk::Desk;
 use cb_scan::{Source, Span};
 use cb_tags::TagRow;
@@ -39,12 +39,8 @@ fn start_of_file() -> Range
 pub(crate) fn range_of(forms: Forms<'_>, source: &Source, span: Span) -> Range
     ensures { result ≡ range_of forms.entry.encoding source.now span.start span.end }
 {
-    range_in(
-        forms.encoding,
-        source,
-        span.start as usize,
-        span.end as usize,
-    )
+    let mut positions = Positions::new(forms.encoding, source);
+    positions.range(span.start as usize, span.end as usize)
 }
 
 /// The start of a file.
@@ -67,7 +63,10 @@ fn name_range(forms: Forms<'_>, desk: &Desk, row: &TagRow<'_>) -> Range
     let start = row.place as usize;
     let end = start + row.name.len();
     match desk.source(row.file) {
-        Some(source) => range_in(forms.encoding, source, start, end),
+        Some(source) => {
+            let mut positions = Positions::new(forms.encoding, source);
+            positions.range(start, end)
+        }
         None => start_of_file(),
     }
 }

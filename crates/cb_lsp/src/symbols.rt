@@ -1,5 +1,5 @@
 //! The symbols of a document, of the whole session, and where they are.
-ghost use Rattle.std.specs.Prelude.{◌≡◌, ◌∷◌, [], MatchOption, false, filter, true};
+ghost use Rattle.std.specs.Prelude.{◌≡◌, ◌∷◌, [], Bool, MatchOption, false, filter, true};
 ghost use Rattle.cb_tags.specs.TagLines.{tag_of};
 ghost use Rattle.cb_wire.specs.Symbols.{symbol_text, tree_symbol_text};
 ghost use Rattle.cb_wire.specs.Values.{value_text};
@@ -8,6 +8,8 @@ ghost use Rattle.cb_lsp.specs.Searches.{is_like};
 ghost use Rattle.cb_lsp.specs.Symbols.{file_symbol_as, session_symbol};
 ghost use Rattle.cb_lsp.specs.steps.Elements.{
   client_in,
+  client_of_defs,
+  defs_left,
   file_left,
   files_left,
   flat_left,
@@ -17,53 +19,71 @@ ghost use Rattle.cb_lsp.specs.steps.Elements.{
 };
 
 use crate::kind::kind_number;
-use crate::location::{Forms, file_place, place_of, range_of};
+use crate::columns::Positions;
+use crate::location::{Forms, file_place, place_of};
 use crate::meaning::Meaning;
-use crate::place::{bytes_of, line_range};
+use crate::place::bytes_of;
 use crate::text::holds_like;
 use cb_desk::{Definitions, Desk, Files, TagRows, is_header};
-use cb_scan::{Def, Source};
+use cb_scan::Def;
 use cb_tags::TagRow;
-use cb_wire::{Elements, Location, Symbol, TreeSymbol};
+use cb_wire::{Elements, Location, Root, Symbol, TreeSymbol};
 
 /// The most symbols of a session that are told.
 pub(crate) const MOST_SYMBOLS: usize = 1_000;
 
 /// The definitions of a file.
-#[derive(Clone, Copy)]
+#[derive(Drop)]
 pub(crate) struct FileDefs<'a> {
-    pub(crate) forms: Forms<'a>,
+    pub(crate) root: &'a Root,
     pub(crate) file: &'a [u8],
-    pub(crate) source: &'a Source,
+    pub(crate) positions: Positions<'a>,
     pub(crate) rest: &'a [Def],
 }
 
 impl<'a> FileDefs<'a> {
-    /// A definition in the flat form.
-    fn flat(&self, def: &Def) -> Symbol<'a>
-        ensures { symbol_text result ≡ value_text (file_symbol_as false (client_in self.now.forms)
-            self.now.file.now self.now.source.now def.now) }
+    /// The same, from here on.
+    fn again(&self) -> FileDefs<'a>
+        ensures { (tree : Bool) → defs_left tree result ≡ defs_left tree self.now }
     {
+        FileDefs {
+            root: self.root,
+            file: self.file,
+            positions: Positions::new(self.positions.encoding(), self.positions.source()),
+            rest: self.rest,
+        }
+    }
+
+    /// A definition in the flat form.
+    fn flat(&mut self, def: &Def) -> Symbol<'a>
+        ensures symbol { symbol_text result ≡ value_text (file_symbol_as false
+            (client_of_defs self.old) self.old.file.now self.old.positions.text def.now) }
+        ensures left { defs_left false self.new ≡ defs_left false self.old }
+    {
+        let source = self.positions.source();
+        let range = self.positions.range(def.name.start as usize, def.name.end as usize);
         Symbol {
-            name: bytes_of(self.source, def.name),
+            name: bytes_of(source, def.name),
             kind: kind_number(def.kind),
             location: Location {
-                root: self.forms.root,
+                root: self.root,
                 name: self.file,
-                range: range_of(self.forms, self.source, def.name),
+                range,
             },
         }
     }
 
     /// A definition in the tree form.
-    fn tree(&self, def: &Def) -> TreeSymbol<'a>
-        ensures { tree_symbol_text result ≡ value_text (file_symbol_as true
-            (client_in self.now.forms) self.now.file.now self.now.source.now def.now) }
+    fn tree(&mut self, def: &Def) -> TreeSymbol<'a>
+        ensures symbol { tree_symbol_text result ≡ value_text (file_symbol_as true
+            (client_of_defs self.old) self.old.file.now self.old.positions.text def.now) }
+        ensures left { defs_left true self.new ≡ defs_left true self.old }
     {
-        let line = line_range(self.forms.encoding, self.source, def.name.start);
-        let range = range_of(self.forms, self.source, def.name);
+        let source = self.positions.source();
+        let line = self.positions.line_range(def.name.start);
+        let range = self.positions.range(def.name.start as usize, def.name.end as usize);
         TreeSymbol {
-            name: bytes_of(self.source, def.name),
+            name: bytes_of(source, def.name),
             kind: kind_number(def.kind),
             line,
             range,
@@ -72,7 +92,7 @@ impl<'a> FileDefs<'a> {
 }
 
 /// As symbols of the flat form.
-#[derive(Clone, Copy)]
+#[derive(Drop)]
 pub(crate) struct FlatSymbols<'a> {
     pub(crate) defs: FileDefs<'a>,
 }
@@ -83,7 +103,9 @@ impl<'a> Elements for FlatSymbols<'a> {
     ghost texts = { flat_left };
 
     fn again(&self) -> FlatSymbols<'a> {
-        *self
+        FlatSymbols {
+            defs: self.defs.again(),
+        }
     }
 
     fn next(&mut self) -> Option<Symbol<'a>> {
@@ -98,7 +120,7 @@ impl<'a> Elements for FlatSymbols<'a> {
 }
 
 /// As symbols of the tree form.
-#[derive(Clone, Copy)]
+#[derive(Drop)]
 pub(crate) struct TreeSymbols<'a> {
     pub(crate) defs: FileDefs<'a>,
 }
@@ -109,7 +131,9 @@ impl<'a> Elements for TreeSymbols<'a> {
     ghost texts = { tree_left };
 
     fn again(&self) -> TreeSymbols<'a> {
-        *self
+        TreeSymbols {
+            defs: self.defs.again(),
+        }
     }
 
     fn next(&mut self) -> Option<TreeSymbol<'a>> {

@@ -1,5 +1,5 @@
 -- The elements of lists that are written.
-use Rattle.std.specs.Prelude.{ℕ, ◌++◌, List, [], ◌∷◌, codes, decimal, map, filter}
+use Rattle.std.specs.Prelude.{ℕ, Bool, ◌++◌, List, [], ◌∷◌, codes, decimal, map, filter}
 use Rattle.std.specs.Prelude.{Option, None, Some, true, false}
 use Rattle.std.specs.Borrow.{Bor}
 use Rattle.json.specs.Print.{escape}
@@ -14,6 +14,7 @@ use Rattle.cb_lsp.specs.Symbols.{file_place, file_symbol_as, place_of, session_s
 use Rattle.cb_lsp.specs.declared.hover.Hover.{Hover}
 use Rattle.cb_lsp.specs.declared.hover.Hovers.{Hovers}
 use Rattle.cb_lsp.specs.declared.location.Forms.{Forms}
+use Rattle.cb_lsp.specs.declared.symbols.FileDefs.{FileDefs}
 use Rattle.cb_lsp.specs.declared.symbols.FlatSymbols.{FlatSymbols}
 use Rattle.cb_lsp.specs.declared.symbols.HeaderFiles.{HeaderFiles}
 use Rattle.cb_lsp.specs.declared.symbols.OneFile.{OneFile}
@@ -26,6 +27,14 @@ use Rattle.cb_lsp.specs.steps.Meanings.{meaning_left}
 abbrev pub client_in : Forms → Client
 client_in f = record { root = f.root.now; encoding = f.encoding; tree = f.tree }
 
+-- what a client takes of the definitions of a file
+abbrev pub client_of_defs : FileDefs → Client
+client_of_defs d = record {
+  root = d.root.now;
+  encoding = d.positions.encoding;
+  tree = false;
+}
+
 -- a definition as a hover shows it, inside a string of JSON
 abbrev pub hover_element : Hover → List ℕ
 hover_element h =
@@ -34,15 +43,16 @@ hover_element h =
 
 -- ---- those that are left
 
+abbrev pub defs_left : (tree : Bool) → FileDefs → List (List ℕ)
+defs_left tree s =
+    map (λ d. value_text (file_symbol_as tree (client_of_defs s) s.file.now s.positions.text d))
+    s.rest.now
+
 abbrev pub flat_left : FlatSymbols → List (List ℕ)
-flat_left s =
-    map (λ d. value_text (file_symbol_as false (client_in s.defs.forms) s.defs.file.now
-    s.defs.source.now d)) s.defs.rest.now
+flat_left s = defs_left false s.defs
 
 abbrev pub tree_left : TreeSymbols → List (List ℕ)
-tree_left s =
-    map (λ d. value_text (file_symbol_as true (client_in s.defs.forms) s.defs.file.now
-    s.defs.source.now d)) s.defs.rest.now
+tree_left s = defs_left true s.defs
 
 abbrev pub places_left : Places → List (List ℕ)
 places_left p =

@@ -1,0 +1,174 @@
+//! Columns and positions of places that come one behind the other.
+ghost use Rattle.std.specs.Prelude.{◌≡◌};
+
+use cb_scan::Source;
+use cb_wire::{Encoding, Position, Range, column_of_place, place_of_column};
+use std::marker::Model;
+
+/// Columns of places in a line. Places that come one behind the other go through the line once.
+#[derive(Drop)]
+pub(crate) struct Columns<'a> {
+    encoding: Encoding,
+    line: &'a [u8],
+    /// Where a character begins that the line was gone through up to, and its column.
+    bytes: usize,
+    units: usize,
+}
+
+impl<'a> Model for Columns<'a> {
+    ghost use Rattle.cb_lsp.specs.steps.Columns.{IsMark, LineColumns};
+
+    ghost Value = { LineColumns };
+
+    ghost view = { λ c. record { encoding = c.encoding; line = c.line.now } };
+
+    ghost invariant = { λ c. IsMark c.encoding c.line.now c.bytes c.units };
+}
+
+impl<'a> Columns<'a> {
+    ghost use Rattle.cb_wire.specs.Units.{column};
+
+    fn new(encoding: Encoding, line: &'a [u8]) -> Columns<'a>
+        ensures { result ≡ record { encoding = encoding; line = line.now } }
+    {
+        Columns {
+            encoding,
+            line,
+            bytes: 0,
+            units: 0,
+        }
+    }
+
+    /// The column of a place.
+    fn column(&mut self, place: usize) -> usize
+        ensures column { result ≡ column self.old.encoding self.old.line place }
+        ensures same { self.new ≡ self.old }
+    {
+        if place < self.bytes {
+            return column_of_place(self.encoding, self.line, place);
+        }
+        let rest = self.line.split_at(self.bytes).1;
+        let units = column_of_place(self.encoding, rest, place - self.bytes);
+        let bytes = place_of_column(self.encoding, rest, units);
+        self.bytes += bytes;
+        self.units += units;
+        self.units
+    }
+}
+
+/// Positions in a source. Places that come one behind the other go through each line twice.
+#[derive(Drop)]
+pub(crate) struct Positions<'a> {
+    encoding: Encoding,
+    source: &'a Source,
+    /// The line of the last place, from 1.
+    line: u32,
+    /// The column of its end.
+    width: usize,
+    columns: Columns<'a>,
+}
+
+impl<'a> Model for Positions<'a> {
+    ghost use Rattle.cb_lsp.specs.steps.Columns.{AreOfLine, SourceColumns};
+
+    ghost Value = { SourceColumns };
+
+    ghost view = { λ p. record { encoding = p.encoding; text = p.source.now; line = p.line } };
+
+    ghost invariant = { λ p. AreOfLine p.encoding p.source.now p.line p.width p.columns };
+}
+
+impl<'a> Positions<'a> {
+    ghost use Rattle.std.specs.Prelude.{◌≤◌, length};
+    ghost use Rattle.cb_wire.specs.Positions.{position};
+    ghost use Rattle.cb_lsp.specs.Places.{line_range, range_of};
+
+    /// None yet.
+    pub(crate) fn new(encoding: Encoding, source: &'a Source) -> Positions<'a>
+        ensures encoding { result.encoding ≡ encoding }
+        ensures text { result.text ≡ source.now }
+    {
+        Positions {
+            encoding,
+            source,
+            line: 0,
+            width: 0,
+            columns: Columns::new(encoding, b""),
+        }
+    }
+
+    /// The source.
+    pub(crate) fn source(&self) -> &'a Source
+        ensures { result.now ≡ self.now.text }
+    {
+        self.source
+    }
+
+    /// What columns count.
+    pub(crate) fn encoding(&self) -> Encoding
+        ensures { result ≡ self.now.encoding }
+    {
+        self.encoding
+    }
+
+    /// Goes to a line.
+    fn go_to(&mut self, line: u32)
+        ensures encoding { self.new.encoding ≡ self.old.encoding }
+        ensures text { self.new.text ≡ self.old.text }
+        ensures line { self.new.line ≡ line }
+    {
+        if self.line != line {
+            let shown = self.source.shown_line(line);
+            self.line = line;
+            self.width = column_of_place(self.encoding, shown, shown.len());
+            self.columns = Columns::new(self.encoding, shown);
+        }
+    }
+
+    /// The position of a place, by the table of lines.
+    fn position(&mut self, place: usize) -> Position
+        ensures position { result ≡ position self.old.encoding self.old.text place }
+        ensures encoding { self.new.encoding ≡ self.old.encoding }
+        ensures text { self.new.text ≡ self.old.text }
+    {
+        let line = self.source.line_of(place.min(self.source.bytes().len()) as u32);
+        let start = self.source.line_start(line) as usize;
+        self.go_to(line);
+        Position {
+            line: line as usize - 1,
+            character: self.columns.column(place.saturating_sub(start)),
+        }
+    }
+
+    /// The range of bytes.
+    pub(crate) fn range(&mut self, start: usize, end: usize) -> Range
+        ensures range { result ≡ range_of self.old.encoding self.old.text start end }
+        ensures encoding { self.new.encoding ≡ self.old.encoding }
+        ensures text { self.new.text ≡ self.old.text }
+    {
+        let start = self.position(start);
+        let end = self.position(end);
+        Range { start, end }
+    }
+
+    /// The range of the shown line of a place.
+    pub(crate) fn line_range(&mut self, place: u32) -> Range
+        ensures range { result ≡ line_range self.old.encoding self.old.text place }
+        ensures encoding { self.new.encoding ≡ self.old.encoding }
+        ensures text { self.new.text ≡ self.old.text }
+    {
+        let line = self.source.line_of(place);
+        self.go_to(line);
+        let row = line as usize - 1;
+        Range {
+            start: Position {
+                line: row,
+                character: 0,
+            },
+            end: Position {
+                line: row,
+                character: self.width,
+            },
+        }
+    }
+}
