@@ -1,5 +1,6 @@
 pub mod Columns
 pub mod Elements
+pub mod Located
 pub mod Meanings
 pub mod Noted
 pub mod Turns

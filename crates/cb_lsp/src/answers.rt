@@ -25,13 +25,13 @@ ghost use Rattle.cb_lsp.specs.Hovers.{hover_of, hover_texts};
 ghost use Rattle.cb_lsp.specs.Searches.{found_by};
 ghost use Rattle.cb_lsp.specs.Symbols.{file_place, file_symbol, session_symbol};
 ghost use Rattle.cb_lsp.specs.Words.{word_at};
-ghost use Rattle.cb_lsp.specs.steps.Elements.{client_in};
+ghost use Rattle.cb_lsp.specs.steps.Located.{client_in};
 ghost use Rattle.cb_lsp.specs.steps.Meanings.{meaning_left};
 
 use crate::header::{header_at, is_beside, without_dots};
 use crate::hover::{Hovers, MOST_HOVERS};
 use crate::columns::Positions;
-use crate::location::{Forms, range_of};
+use crate::location::{Forms, Located, range_of};
 use crate::meaning::Meaning;
 use crate::place::bytes_of;
 use crate::question::FileQuestion;
@@ -207,8 +207,7 @@ impl<'a> FileAsked<'a> {
                 out,
                 id,
                 Places {
-                    forms: self.forms,
-                    desk: self.desk,
+                    places: Located::new(self.forms, self.desk),
                     rest: self.meaning(word),
                 },
             ),
@@ -322,8 +321,7 @@ pub(crate) fn put_session_symbols<W: Write>(
         (found_by desk.now.timeline.present query.now))))))) }
 {
     let symbols = SessionSymbols {
-        forms,
-        desk,
+        places: Located::new(forms, desk),
         query,
         named: desk.definitions(query),
         all: desk.tag_rows(Format::Extended),

@@ -5,13 +5,14 @@ ghost use Rattle.cb_tags.specs.TagLines.{tag_of};
 ghost use Rattle.cb_wire.specs.Locations.{location_tree};
 ghost use Rattle.cb_lsp.specs.Places.{range_of, start_of_file};
 ghost use Rattle.cb_lsp.specs.Symbols.{file_place, place_of};
-ghost use Rattle.cb_lsp.specs.steps.Elements.{client_in};
+ghost use Rattle.cb_lsp.specs.steps.Located.{client_in};
 
 use crate::columns::Positions;
 use cb_desk::Desk;
 use cb_scan::{Source, Span};
 use cb_tags::TagRow;
 use cb_wire::{Encoding, Location, Position, Range, Root};
+use std::marker::Model;
 
 /// What a client takes.
 #[derive(Clone, Copy)]
@@ -54,31 +55,113 @@ pub(crate) fn file_place<'a>(forms: Forms<'a>, name: &'a [u8]) -> Location<'a>
     }
 }
 
-/// The range of the name of a definition.
-fn name_range(forms: Forms<'_>, desk: &Desk, row: &TagRow<'_>) -> Range
-    ensures { result ≡ range_of forms.entry.encoding
-        (text_of_file desk.now.timeline.present.files row.now.file.now) row.now.place
-        (row.now.place + length row.now.name.now) }
-{
-    let start = row.place as usize;
-    let end = start + row.name.len();
-    match desk.source(row.file) {
-        Some(source) => {
-            let mut positions = Positions::new(forms.encoding, source);
-            positions.range(start, end)
-        }
-        None => start_of_file(),
-    }
+/// Positions in a file.
+#[derive(Drop)]
+struct FilePositions<'a> {
+    file: &'a [u8],
+    positions: Positions<'a>,
 }
 
-/// Where the name of a definition is.
-pub(crate) fn place_of<'a>(forms: Forms<'a>, desk: &'a Desk, row: &TagRow<'a>) -> Location<'a>
-    ensures { location_tree result ≡ place_of (client_in forms.entry)
-        desk.entry.now.timeline.present.files (tag_of row.now) }
-{
-    Location {
-        root: forms.root,
-        name: row.file,
-        range: name_range(forms, desk, row),
+/// Where definitions are, as a client has it. Those of one file that come one behind the other go
+/// through each line of it twice.
+#[derive(Drop)]
+pub(crate) struct Located<'a> {
+    forms: Forms<'a>,
+    desk: &'a Desk,
+    /// Those in the file of the last one.
+    last: Option<FilePositions<'a>>,
+}
+
+impl<'a> Model for Located<'a> {
+    ghost use Rattle.cb_lsp.specs.steps.Located.{AreIn, Locating, client_in};
+
+    ghost Value = { Locating };
+
+    ghost view = { λ l. record {
+      client = client_in l.forms;
+      files = l.desk.now.timeline.present.files;
+    } };
+
+    ghost invariant = { λ l.
+        AreIn l.forms.encoding l.desk.now.timeline.present.files l.last };
+}
+
+impl<'a> Located<'a> {
+    ghost use Rattle.std.specs.Prelude.{[], MatchOption};
+
+    /// None yet.
+    pub(crate) fn new(forms: Forms<'a>, desk: &'a Desk) -> Located<'a>
+        ensures { result ≡ record {
+          client = client_in forms.entry;
+          files = desk.entry.now.timeline.present.files;
+        } }
+    {
+        Located {
+            forms,
+            desk,
+            last: None,
+        }
+    }
+
+    /// The same.
+    pub(crate) fn again(&self) -> Located<'a>
+        ensures { result ≡ self.now }
+    {
+        Located::new(self.forms, self.desk)
+    }
+
+    /// Positions in a file, if it is there.
+    fn positions_in(&mut self, file: &[u8]) -> Option<Positions<'a>>
+        ensures found { MatchOption result (text_of_file self.old.files file.now ≡ [])
+            (λ p. (p.encoding ≡ self.old.client.encoding)
+            × (p.text ≡ text_of_file self.old.files file.now)) }
+        ensures same { self.new ≡ self.old }
+    {
+        if let Some(last) = self.last.take() {
+            if last.file == file {
+                return Some(last.positions);
+            }
+        }
+        let Some(source) = self.desk.source(file) else {
+            return None;
+        };
+        Some(Positions::new(self.forms.encoding, source))
+    }
+
+    /// The range of the name of a definition.
+    fn range(&mut self, row: &TagRow<'a>) -> Range
+        ensures range { result ≡ range_of self.old.client.encoding
+            (text_of_file self.old.files row.now.file.now) row.now.place
+            (row.now.place + length row.now.name.now) }
+        ensures same { self.new ≡ self.old }
+    {
+        let start = row.place as usize;
+        let end = start + row.name.len();
+        match self.positions_in(row.file) {
+            Some(found) => {
+                let mut positions = found;
+                let range = positions.range(start, end);
+                self.last = Some(FilePositions {
+                    file: row.file,
+                    positions,
+                });
+                range
+            }
+            None => start_of_file(),
+        }
+    }
+
+    /// Where the name of a definition is.
+    pub(crate) fn place(&mut self, row: &TagRow<'a>) -> Location<'a>
+        ensures place { location_tree result
+            ≡ place_of self.old.client self.old.files (tag_of row.now) }
+        ensures same { self.new ≡ self.old }
+    {
+        let range = self.range(row);
+        Location {
+            root: self.forms.root,
+            name: row.file,
+            range,
+        }
     }
 }

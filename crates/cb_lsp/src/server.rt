@@ -110,7 +110,7 @@ impl Server {
     ghost use Rattle.cb_lsp.specs.Models.{asked_of};
     ghost use Rattle.cb_lsp.specs.Params.{items_in, member_of, uri_in};
     ghost use Rattle.cb_lsp.specs.Questions.{in_file};
-    ghost use Rattle.cb_lsp.specs.steps.Elements.{client_in};
+    ghost use Rattle.cb_lsp.specs.steps.Located.{client_in};
     ghost use Rattle.cb_lsp.specs.Bodies.{Does};
     ghost use Rattle.cb_lsp.specs.steps.Values.{seen};
 

@@ -7,7 +7,6 @@ ghost use Rattle.cb_lsp.specs.Headers.{files_named};
 ghost use Rattle.cb_lsp.specs.Searches.{is_like};
 ghost use Rattle.cb_lsp.specs.Symbols.{file_symbol_as, session_symbol};
 ghost use Rattle.cb_lsp.specs.steps.Elements.{
-  client_in,
   client_of_defs,
   defs_left,
   file_left,
@@ -20,11 +19,11 @@ ghost use Rattle.cb_lsp.specs.steps.Elements.{
 
 use crate::kind::kind_number;
 use crate::columns::Positions;
-use crate::location::{Forms, file_place, place_of};
+use crate::location::{Forms, Located, file_place};
 use crate::meaning::Meaning;
 use crate::place::bytes_of;
 use crate::text::holds_like;
-use cb_desk::{Definitions, Desk, Files, TagRows, is_header};
+use cb_desk::{Definitions, Files, TagRows, is_header};
 use cb_scan::Def;
 use cb_tags::TagRow;
 use cb_wire::{Elements, Location, Root, Symbol, TreeSymbol};
@@ -150,8 +149,7 @@ impl<'a> Elements for TreeSymbols<'a> {
 /// Where what a word means is.
 #[derive(Drop)]
 pub(crate) struct Places<'a, 'p> {
-    pub(crate) forms: Forms<'a>,
-    pub(crate) desk: &'a Desk,
+    pub(crate) places: Located<'a>,
     pub(crate) rest: Meaning<'a, 'p>,
 }
 
@@ -162,27 +160,27 @@ impl<'a, 'p> Elements for Places<'a, 'p> {
 
     fn again(&self) -> Places<'a, 'p> {
         Places {
-            forms: self.forms,
-            desk: self.desk,
+            places: self.places.again(),
             rest: self.rest.again(),
         }
     }
 
     fn next(&mut self) -> Option<Location<'a>> {
         let row = self.rest.next()?;
-        Some(place_of(self.forms, self.desk, &row))
+        Some(self.places.place(&row))
     }
 }
 
 /// A definition of the session.
-fn session_symbol<'a>(forms: Forms<'a>, desk: &'a Desk, row: &TagRow<'a>) -> Symbol<'a>
-    ensures { symbol_text result ≡ value_text (session_symbol (client_in forms.entry)
-        desk.entry.now.timeline.present.files (tag_of row.now)) }
+fn session_symbol<'a>(places: &mut Located<'a>, row: &TagRow<'a>) -> Symbol<'a>
+    ensures symbol { symbol_text result ≡ value_text (session_symbol places.old.client
+        places.old.files (tag_of row.now)) }
+    ensures same { places.new ≡ places.old }
 {
     Symbol {
         name: row.name,
         kind: kind_number(row.kind),
-        location: place_of(forms, desk, row),
+        location: places.place(row),
     }
 }
 
@@ -210,8 +208,7 @@ fn next_like<'a>(rows: &mut TagRows<'a>, query: &[u8]) -> Option<TagRow<'a>>
 /// The definitions of the session whose name is a text, and then those whose name holds it.
 #[derive(Drop)]
 pub(crate) struct SessionSymbols<'a, 'p> {
-    pub(crate) forms: Forms<'a>,
-    pub(crate) desk: &'a Desk,
+    pub(crate) places: Located<'a>,
     pub(crate) query: &'p [u8],
     pub(crate) named: Definitions<'a, 'p>,
     pub(crate) all: TagRows<'a>,
@@ -224,8 +221,7 @@ impl<'a, 'p> Elements for SessionSymbols<'a, 'p> {
 
     fn again(&self) -> SessionSymbols<'a, 'p> {
         SessionSymbols {
-            forms: self.forms,
-            desk: self.desk,
+            places: self.places.again(),
             query: self.query,
             named: self.named.again(),
             all: self.all.again(),
@@ -234,10 +230,10 @@ impl<'a, 'p> Elements for SessionSymbols<'a, 'p> {
 
     fn next(&mut self) -> Option<Symbol<'a>> {
         match self.named.next() {
-            Some(row) => Some(session_symbol(self.forms, self.desk, &row)),
+            Some(row) => Some(session_symbol(&mut self.places, &row)),
             None => {
                 let row = next_like(&mut self.all, self.query)?;
-                Some(session_symbol(self.forms, self.desk, &row))
+                Some(session_symbol(&mut self.places, &row))
             }
         }
     }

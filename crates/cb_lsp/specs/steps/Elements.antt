@@ -13,7 +13,6 @@ use Rattle.cb_lsp.specs.Searches.{is_like}
 use Rattle.cb_lsp.specs.Symbols.{file_place, file_symbol_as, place_of, session_symbol}
 use Rattle.cb_lsp.specs.declared.hover.Hover.{Hover}
 use Rattle.cb_lsp.specs.declared.hover.Hovers.{Hovers}
-use Rattle.cb_lsp.specs.declared.location.Forms.{Forms}
 use Rattle.cb_lsp.specs.declared.symbols.FileDefs.{FileDefs}
 use Rattle.cb_lsp.specs.declared.symbols.FlatSymbols.{FlatSymbols}
 use Rattle.cb_lsp.specs.declared.symbols.HeaderFiles.{HeaderFiles}
@@ -21,11 +20,8 @@ use Rattle.cb_lsp.specs.declared.symbols.OneFile.{OneFile}
 use Rattle.cb_lsp.specs.declared.symbols.Places.{Places}
 use Rattle.cb_lsp.specs.declared.symbols.SessionSymbols.{SessionSymbols}
 use Rattle.cb_lsp.specs.declared.symbols.TreeSymbols.{TreeSymbols}
+use Rattle.cb_lsp.specs.steps.Located.{client_in}
 use Rattle.cb_lsp.specs.steps.Meanings.{meaning_left}
-
--- what a client takes
-abbrev pub client_in : Forms → Client
-client_in f = record { root = f.root.now; encoding = f.encoding; tree = f.tree }
 
 -- what a client takes of the definitions of a file
 abbrev pub client_of_defs : FileDefs → Client
@@ -56,12 +52,11 @@ tree_left s = defs_left true s.defs
 
 abbrev pub places_left : Places → List (List ℕ)
 places_left p =
-    map (λ t. value_text (place_of (client_in p.forms) p.desk.now.timeline.present.files t))
-    (meaning_left p.rest)
+    map (λ t. value_text (place_of p.places.client p.places.files t)) (meaning_left p.rest)
 
 abbrev pub session_left : SessionSymbols → List (List ℕ)
 session_left s =
-    map (λ t. value_text (session_symbol (client_in s.forms) s.desk.now.timeline.present.files t))
+    map (λ t. value_text (session_symbol s.places.client s.places.files t))
     (s.named ++ filter (is_like s.query.now) s.all)
 
 abbrev pub files_left : HeaderFiles → List (List ℕ)

@@ -9,7 +9,8 @@ use Rattle.cb_tags.specs.TagLines.{Tag}
 use Rattle.cb_lsp.specs.Searches.{is_like}
 use Rattle.cb_lsp.specs.Symbols.{session_symbol}
 use Rattle.cb_lsp.specs.declared.symbols.TheConstants.{MOST_SYMBOLS}
-use Rattle.cb_lsp.specs.steps.Elements.{client_in}
+use Rattle.cb_lsp.specs.steps.Located.{client_in}
+use Rattle.cb_lsp.specs.steps.Located.{Locating}
 use Rattle.cb_lsp.proofs.Listed.{map-map, take-map}
 use Rattle.cb_lsp.proofs.answers.put_session_symbols.Goals as goal
 
@@ -23,4 +24,7 @@ returns g c =
     ∙ ap (λ ts. map symbol (take MOST_SYMBOLS ts))
     (ap₂ (λ (a b : List Tag). a ++ filter (is_like c.args.query.now) b) c.definitions.ensures
     c.tag_rows.ensures))
-    (c.put_first.ensures (map symbol found) (map-map value_text symbol found))
+    (c.put_first.ensures (map symbol found)
+    (ap (λ (l : Locating). map (λ t. value_text (session_symbol l.client l.files t)) found)
+    c.new.ensures
+    ∙ map-map value_text symbol found))

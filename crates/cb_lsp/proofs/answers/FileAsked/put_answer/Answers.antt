@@ -9,7 +9,7 @@ use Rattle.cb_lsp.specs.Answers.{answer_in, definition_at, hover_at, list_of}
 use Rattle.cb_lsp.specs.Headers.{header_at}
 use Rattle.cb_lsp.specs.Symbols.{file_symbol}
 use Rattle.cb_lsp.specs.Words.{word_at}
-use Rattle.cb_lsp.specs.steps.Elements.{client_in}
+use Rattle.cb_lsp.specs.steps.Located.{client_in}
 use Rattle.cb_lsp.proofs.answers.FileAsked.put_answer.Goals as goal
 
 pub returns-in-Symbols : goal.returns-in-Symbols

@@ -7,7 +7,7 @@ use Rattle.cb_wire.specs.Values.{value_text}
 use Rattle.cb_lsp.specs.Answers.{definition_at, list_of, places_of_word}
 use Rattle.cb_lsp.specs.Headers.{header_at, header_files}
 use Rattle.cb_lsp.specs.Symbols.{file_place}
-use Rattle.cb_lsp.specs.steps.Elements.{client_in}
+use Rattle.cb_lsp.specs.steps.Located.{client_in}
 use Rattle.cb_lsp.proofs.answers.FileAsked.put_definition.Goals as goal
 
 pub returns-in-Some : goal.returns-in-Some

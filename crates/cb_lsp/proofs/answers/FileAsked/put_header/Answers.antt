@@ -8,7 +8,7 @@ use Rattle.std.specs.Prelude.{if◌then◌else◌}
 use Rattle.cb_lsp.specs.Answers.{list_of}
 use Rattle.cb_lsp.specs.Headers.{files_named, folder_of, without_dots}
 use Rattle.cb_lsp.specs.Symbols.{file_place}
-use Rattle.cb_lsp.specs.steps.Elements.{client_in}
+use Rattle.cb_lsp.specs.steps.Located.{client_in}
 use Rattle.cb_lsp.proofs.Listed.{map-map}
 use Rattle.cb_lsp.proofs.answers.FileAsked.put_header.Goals as goal
 

@@ -5,7 +5,7 @@ use Rattle.cb_wire.specs.Texts.{frame}
 use Rattle.cb_wire.specs.Trees.{result_reply}
 use Rattle.cb_wire.specs.Values.{value_text}
 use Rattle.cb_lsp.specs.Answers.{hover_at}
-use Rattle.cb_lsp.specs.steps.Elements.{client_in}
+use Rattle.cb_lsp.specs.steps.Located.{client_in}
 use Rattle.cb_lsp.proofs.answers.FileAsked.put_hover.Goals as goal
 
 pub returns-in-Some : goal.returns-in-Some

@@ -1,4 +1,4 @@
-use Rattle.std.proofs.Common.{subst, sym, refl, map, []}
+use Rattle.std.proofs.Common.{◌∙◌, ap, subst, sym, refl, map, []}
 use Rattle.cb_tags.specs.Writing.{Puts}
 use Rattle.cb_wire.specs.Messages.{id_json}
 use Rattle.cb_wire.specs.Texts.{frame}
@@ -6,7 +6,8 @@ use Rattle.cb_wire.specs.Trees.{result_reply}
 use Rattle.cb_wire.specs.Values.{value_text}
 use Rattle.cb_lsp.specs.Answers.{list_of, places_of_word}
 use Rattle.cb_lsp.specs.Symbols.{place_of}
-use Rattle.cb_lsp.specs.steps.Elements.{client_in}
+use Rattle.cb_lsp.specs.steps.Located.{client_in}
+use Rattle.cb_lsp.specs.steps.Located.{Locating}
 use Rattle.cb_lsp.specs.steps.Meanings.{meaning_left}
 use Rattle.cb_lsp.proofs.Listed.{map-map}
 use Rattle.cb_lsp.proofs.answers.FileAsked.put_places.Goals as goal
@@ -24,7 +25,9 @@ returns-in-Some g c =
     (subst (λ ts. Puts c.args.out.now c.put_list.new.out c.put_list.result
     (frame (value_text (result_reply (id_json c.args.id) (list_of (map place ts))))))
     c.meaning.ensures
-    (c.put_list.ensures (map place found) (map-map value_text place found)))
+    (c.put_list.ensures (map place found)
+    (ap (λ (l : Locating). map (λ t. value_text (place_of l.client l.files t)) found) c.new.ensures
+    ∙ map-map value_text place found)))
 
 pub returns-in-None : goal.returns-in-None
 returns-in-None g c =

@@ -6,7 +6,7 @@ use Rattle.cb_wire.specs.Trees.{result_reply}
 use Rattle.cb_wire.specs.Values.{value_text}
 use Rattle.cb_lsp.specs.Answers.{list_of}
 use Rattle.cb_lsp.specs.Symbols.{file_symbol_as}
-use Rattle.cb_lsp.specs.steps.Elements.{client_in}
+use Rattle.cb_lsp.specs.steps.Located.{client_in}
 use Rattle.cb_lsp.proofs.FileSymbols.{same-left}
 use Rattle.cb_lsp.proofs.Listed.{map-map}
 use Rattle.cb_lsp.proofs.answers.FileAsked.put_symbols.Goals as goal

@@ -7,7 +7,7 @@ use Rattle.cb_wire.specs.Values.{value_text}
 use Rattle.cb_tags.specs.TagLines.{tag_of}
 use Rattle.cb_lsp.specs.Answers.{hover_over}
 use Rattle.cb_lsp.specs.Hovers.{hover_of, hover_texts}
-use Rattle.cb_lsp.specs.steps.Elements.{client_in}
+use Rattle.cb_lsp.specs.steps.Located.{client_in}
 use Rattle.cb_lsp.specs.steps.Meanings.{meaning_left}
 use Rattle.cb_lsp.proofs.answers.FileAsked.put_word.Goals as goal
 
