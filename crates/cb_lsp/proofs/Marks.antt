@@ -1,10 +1,10 @@
 -- A line that was gone through up to a character.
-use Rattle.std.proofs.Common.{◌≡◌, ◌∙◌, ◌≤◌, ◌<◌, ◌+◌, ◌-◌, ℕ, zero, suc, arith, ap, refl, sym, subst}
+use Rattle.std.proofs.Common.{◌≡◌, ◌∙◌, ◌≤◌, ◌+◌, ◌-◌, ℕ, zero, suc, arith, ap, refl, sym, subst}
 use Rattle.std.proofs.Common.{List, [], ◌∷◌, drop, length, length-drop, inl, inr}
 use Rattle.std.proofs.lemmas.Bool.Decides.{leb_tells}
 use Rattle.cb_wire.specs.declared.units.Encoding.{Encoding}
 use Rattle.cb_wire.specs.Units.{column, first, place_in_line}
-use Rattle.cb_wire.proofs.Fitting.{characters-nil, first_is, measured-end, measured-step}
+use Rattle.cb_wire.proofs.Fitting.{first_is, measured-end, measured-step}
 use Rattle.cb_wire.proofs.Fitting.{measured-stop}
 use Rattle.cb_lsp.specs.steps.Columns.{AreOfLine, IsMark, LineColumns}
 

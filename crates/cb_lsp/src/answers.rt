@@ -28,9 +28,9 @@ ghost use Rattle.cb_lsp.specs.Words.{word_at};
 ghost use Rattle.cb_lsp.specs.steps.Located.{client_in};
 ghost use Rattle.cb_lsp.specs.steps.Meanings.{meaning_left};
 
+use crate::columns::Positions;
 use crate::header::{header_at, is_beside, without_dots};
 use crate::hover::{Hovers, MOST_HOVERS};
-use crate::columns::Positions;
 use crate::location::{Forms, Located, range_of};
 use crate::meaning::Meaning;
 use crate::place::bytes_of;

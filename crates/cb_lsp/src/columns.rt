@@ -131,7 +131,9 @@ impl<'a> Positions<'a> {
         ensures encoding { self.new.encoding ≡ self.old.encoding }
         ensures text { self.new.text ≡ self.old.text }
     {
-        let line = self.source.line_of(place.min(self.source.bytes().len()) as u32);
+        let line = self
+            .source
+            .line_of(place.min(self.source.bytes().len()) as u32);
         let start = self.source.line_start(line) as usize;
         self.go_to(line);
         Position {

@@ -17,8 +17,8 @@ ghost use Rattle.cb_lsp.specs.steps.Elements.{
   tree_left,
 };
 
-use crate::kind::kind_number;
 use crate::columns::Positions;
+use crate::kind::kind_number;
 use crate::location::{Forms, Located, file_place};
 use crate::meaning::Meaning;
 use crate::place::bytes_of;
@@ -60,7 +60,9 @@ impl<'a> FileDefs<'a> {
         ensures left { defs_left false self.new ≡ defs_left false self.old }
     {
         let source = self.positions.source();
-        let range = self.positions.range(def.name.start as usize, def.name.end as usize);
+        let range = self
+            .positions
+            .range(def.name.start as usize, def.name.end as usize);
         Symbol {
             name: bytes_of(source, def.name),
             kind: kind_number(def.kind),
@@ -80,7 +82,9 @@ impl<'a> FileDefs<'a> {
     {
         let source = self.positions.source();
         let line = self.positions.line_range(def.name.start);
-        let range = self.positions.range(def.name.start as usize, def.name.end as usize);
+        let range = self
+            .positions
+            .range(def.name.start as usize, def.name.end as usize);
         TreeSymbol {
             name: bytes_of(source, def.name),
             kind: kind_number(def.kind),
