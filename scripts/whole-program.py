@@ -116,6 +116,7 @@ Commands:
   line  Reads commands from standard input and writes their replies
   find  Writes the rows that answer one question about C sources
   tags  Writes the tags of C sources to a tags file
+  lsp   Serves an editor by the Language Server Protocol, over standard input and output
   help  Print this message or the help of the given subcommand(s)
 
 Options:
@@ -139,6 +140,26 @@ Options:
   -h, --help                Print help
 
 Example: cbrowse line a.c
+"""
+HELP_LSP = b"""\
+Serves an editor by the Language Server Protocol, over standard input and output
+
+Usage: cbrowse lsp [OPTIONS] [FILE]...
+
+Arguments:
+  [FILE]...  C source to load first
+
+Options:
+      --root <DIR>          Folder that the names of files are relative to; that of the \
+editor if not given
+      --wide                Find enumerators, members and variables too, and names that macros hide
+      --prototypes          With --wide: find external declarations and prototypes too
+      --max-files <N>       Most files, 1 to 1048576 [default: 4096]
+      --max-file-bytes <N>  Most bytes of a file, 1 to 268435456 [default: 1000000]
+      --files-from <LIST>   File with the names of more files, one a line
+  -h, --help                Print help
+
+Example: cbrowse lsp --root /home/me/project a.c
 """
 HELP_TAGS = b"""\
 Writes the tags of C sources to a tags file
@@ -378,6 +399,10 @@ ROWS = [
     refused(["line", "--files-from", "./-"], b"./-: cannot be read"),
     wrong(["line", "--files-from", "-"], b"invalid value '-' for '--files-from <LIST>'"),
     wrong(["line", "a.c", "--files-from=-"], b"invalid value '-' for '--files-from <LIST>'"),
+    wrong(["lsp", "a.c", "--files-from", "-"], b"invalid value '-' for '--files-from <LIST>'"),
+    wrong(["lsp", "--root", "w", "a.c"], b"invalid value for '--root <DIR>'"),
+    wrong(["lsp", "--root", ""], b"invalid value for '--root <DIR>'"),
+    wrong(["lsp", "--prototypes", "a.c"], LACKS + b"  --wide\n"),
     refused(["find", "5", "f", "--files-from", "none"], NO_FIELD, 2),
     refused(["find", "1", "", "--files-from", "none"], NO_PATTERN, 2),
     # files that cannot be read or loaded, or written
@@ -390,6 +415,8 @@ ROWS = [
     refused(["tags", "-f", "", "a.c"], b": cannot be written"),
     refused(["tags", "-f", "-", "none.c"], b"none.c: cannot be read"),
     refused(["line", "a.c", "none2.h"], b"none2.h: cannot be read"),
+    refused(["lsp", "a.c", "none2.h"], b"none2.h: cannot be read"),
+    refused(["lsp", "a.c", "--files-from", "none"], b"none: cannot be read"),
     refused(["tags", "--", "-x"], b"-x: cannot be read"),
     # a message is one line whatever bytes a name has
     refused(["find", "0", "x", "a\x1b\n\\.c"], b"a\\x1b\\x0a\\x5c.c: cannot be read"),
@@ -424,6 +451,7 @@ ROWS = [
     help_of(["find", "--help"], HELP_FIND),
     help_of(["tags", "--help"], HELP_TAGS),
     help_of(["help", "tags"], HELP_TAGS),
+    help_of(["lsp", "--help"], HELP_LSP),
     help_of(["--version"], VERSION),
     help_of(["-V"], VERSION),
 ]
