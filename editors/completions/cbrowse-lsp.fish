@@ -2,8 +2,8 @@
 # Made by scripts/completions.py from what the programs say of their words.
 complete -c cbrowse-lsp -f
 complete -c cbrowse-lsp -l root -x -a '(__fish_complete_directories)' -d 'serves this folder, by default the current one'
-complete -c cbrowse-lsp -l wide -d 'finds enumerators, members and variables too, and names that macros hide'
-complete -c cbrowse-lsp -l prototypes -d 'with --wide: finds external declarations and prototypes too'
+complete -c cbrowse-lsp -l standard -d 'finds by the standard profile, which finds less than the wide one'
+complete -c cbrowse-lsp -l prototypes -d 'finds prototypes and external declarations too; not with --standard'
 complete -c cbrowse-lsp -l max-files -x -d 'takes at most N files, 4096 by default'
 complete -c cbrowse-lsp -l max-file-bytes -x -d 'takes files of at most N bytes, 1000000 by default'
 complete -c cbrowse-lsp -s h -l help -d 'prints these words'

@@ -63,7 +63,7 @@ _cbrowse() {
         'cbrowse-tree find') words='-f --format -x --standard --prototypes -L --questions --exclude -j --all --force --verbose --no-progress -S --sshloginfile --transfer -h --help --version' ;;
         'cbrowse-cscope') words='-b -l -L -f -i -R -d -P -A --standard -W -h --help --version' ;;
         'cbrowse-graph') words='--callees --callers --depth --nodes --standard -L --exclude -j -h --help --version' ;;
-        'cbrowse-lsp') words='--root --wide --prototypes --max-files --max-file-bytes -h --help --version' ;;
+        'cbrowse-lsp') words='--root --standard --prototypes --max-files --max-file-bytes -h --help --version' ;;
         esac ;;
         *) if [ "$COMP_CWORD" -eq "$at" ]; then case $name in
         'cbrowse') words='line find tags lsp help' ;;

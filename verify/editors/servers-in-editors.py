@@ -16,7 +16,7 @@ ASCII. An editor that is not there is passed over. What they have to be told was
               After a document is closed with its edit thrown away, answers are about the text that
               was saved, or else opened. So it is with a file that was never on disk
     Commands  the editor's own command goes to a definition in another file
-    Wide      with --wide a member is found, and without it is not
+    Wide      members, enumerators and variables are found by default, and not with --standard
     Link      the tree is opened by a link to it, and each definition is there once
     Quit      no process of the server and no temporary file is left, also where emacs quits without
               ending its server
@@ -106,6 +106,7 @@ int area(const struct shape *it);
 }
 NEW = {"src/new.c": "int fresh(void)\n{\n\treturn 0;\n}\n"}
 FUNCTION, MACRO, TYPEDEF, STRUCT, ENUM = 12, 14, 5, 23, 10
+ENUMERATOR, MEMBER, VARIABLE = 22, 8, 13
 
 # Does the steps of the file `STEPS`, and writes what it was told: JSON, with the milliseconds.
 NVIM_SCRIPT = r"""
@@ -329,10 +330,30 @@ def questions(plan: Plan) -> None:
     plan.ask("workspace", main, "nowhere", is_now=[])
     plan.do("open", shape)
     plan.ask("definition", shape, 7, 8, is_now=[(shape, 1, 11, 17)])
-    plan.ask("definition", shape, 3, 12, is_now=[])  # a member
+    plan.ask("definition", shape, 3, 12, is_now=[(header, 4, 5, 6)])  # a member
     plan.jump(main, 11, 29, [(shape, 5, 4)])
     plan.jump(main, 6, 12, [(header, 2, 8)])
     plan.jump(shape, 7, 8, [(shape, 1, 11)])
+
+
+def profile(plan: Plan, is_wide: bool) -> None:
+    """Members, enumerators and variables, which the wide profile alone finds."""
+    shape, header, deep = "src/shape.c", "src/shape.h", "lib/deep/list.h"
+    plan.do("open", shape)
+    plan.ask("definition", shape, 3, 12, is_now=[(header, 4, 5, 6)] if is_wide else [])
+    member = ("src/shape.h:5\nint w, h;", 3, 12, 13)
+    plan.ask("hover", shape, 3, 12, is_now=member if is_wide else None)
+    for query, more, always in [
+        ("w", [("w", MEMBER, header, 4, 5), ("DOWN", ENUMERATOR, deep, 0, 17)], ["grow"]),
+        ("UP", [("UP", ENUMERATOR, deep, 0, 13)], []),
+        ("old", [("old", VARIABLE, "old/shape.h", 0, 4)], []),
+    ]:
+        functions = [(name, FUNCTION, "lib/list.c", 1, 4) for name in always]
+        plan.ask("workspace", shape, query, is_now=[*(more if is_wide else []), *functions])
+    plan.do("open", header)
+    members = [("w", MEMBER, 4, 5), ("h", MEMBER, 4, 8)] if is_wide else []
+    begin = [("SHAPE_H", MACRO, 1, 8), ("SIDES", MACRO, 2, 8), ("shape", STRUCT, 3, 7)]
+    plan.ask("symbols", header, is_now=[*begin, *members, ("shape_t", TYPEDEF, 6, 21)])
 
 
 def edits(plan: Plan) -> None:
@@ -554,10 +575,10 @@ def by_hand(editor: Editor) -> None:
     typed = ["int extra(int n)\n", "{\n", "\treturn n;\n", "}\n", "\n"]
     what = f"{editor.name}, tree: the file on disk is the one that was saved"
     report.equal(what, "".join([*lines[:5], *typed, *lines[5:]]), saved)
-    plan = Plan(root, ("--wide",), "quit")
-    plan.do("open", "src/shape.c")
-    plan.ask("definition", "src/shape.c", 3, 12, is_now=[("src/shape.h", 4, 5, 6)])
-    editor.check("wide", plan)
+    for part, words in ("wide", ()), ("standard", ("--standard",)):
+        plan = Plan(root, words, "quit")
+        profile(plan, part == "wide")
+        editor.check(part, plan)
     (editor.room / "way").symlink_to(root)
     plan = Plan(editor.room / "way", (), "quit")
     plan.do("open", "src/main.c")

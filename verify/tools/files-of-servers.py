@@ -8,7 +8,8 @@ Git     files that git knows and new ones are listed, also those of a submodule;
         deleted ones and links are not. A folder in which git knows nothing is listed as it is
 Odd     names with signs of a shell are listed. Names with a blank, outside ASCII or too long, and
         files that are too large are left out, and told with how many they are
-Bounds  --max-files and --max-file-bytes leave out more, and are handed on with --wide
+Bounds  --max-files and --max-file-bytes leave out more, and are handed on
+Profile --wide is handed on by default and not with --standard; --prototypes is handed on with it
 Root    is the folder without links in its path; --root names another one
 Input   what the editor writes is what the program reads, to the byte
 Ends    an editor that shuts the server down gets status 0, and one that goes away 1; wrong words
@@ -107,12 +108,27 @@ def bounds(place: Spied) -> None:
         (("--max-files", 2), ["a.c", "b.c"], left(1, many)),
         (("--max-files=2",), ["a.c", "b.c"], left(1, many)),
         (("--max-file-bytes", 9), ["b.c"], left(2, "too large or not to be read")),
-        (("--wide", "--prototypes"), ["a.c", "b.c", "c.c"], ""),
     ]:
         names, given, said = place.listed(*words, below="bounds")
         check(f"{words}", (names, said) == (files, told), (names, said))
-        handed = "=".join(map(str, words)) if words[0] != "--wide" else " ".join(words)
+        handed = "=".join(map(str, words))
         check(f"{words} handed on", f" {handed} " in given, given)
+
+
+def profiles(place: Spied) -> None:
+    place.put("profiles/a.c")
+    for words, handed in [
+        ((), ["--wide"]),
+        (("--standard",), []),
+        (("--prototypes",), ["--wide", "--prototypes"]),
+        (("--prototypes", "--max-files", 2), ["--wide", "--prototypes", "--max-files=2"]),
+        (("--max-files", 2, "--standard"), ["--max-files=2"]),
+    ]:
+        names, given, said = place.listed(*words, below="profiles")
+        check(f"the list by {words}", (names, said) == (["a.c"], ""), (names, said))
+        root = place.folder.resolve() / "profiles"
+        expected = ["lsp", "--root", str(root), *handed, "--files-from", "/dev/fd/4"]
+        check(f"what is handed on by {words}", given.split(" ") == expected, given)
 
 
 def roots(place: Spied) -> None:
@@ -141,10 +157,13 @@ def input_and_ends(place: Spied) -> None:
         status, out, said = place.run(below="ends", stdin=framed(*bodies), TMPDIR=room)
         check(f"{len(bodies)} messages", (status, said) == (expected, ""), (status, said))
         check("a reply to the first", b'"definitionProvider":true' in out, out)
+    neither = "cbrowse-lsp: --prototypes does not go with --standard\n"
     for words, expected, told in [
         (("--max-files",), 2, "cbrowse-lsp: --max-files needs a value\n"),
         (("--max-files", "x"), 2, "cbrowse-lsp: x: a number from 1 up is needed\n"),
-        (("--standard",), 2, "cbrowse-lsp: --standard: no such option\n"),
+        (("--wide",), 2, "cbrowse-lsp: --wide: no such option\n"),
+        (("--standard", "--prototypes"), 2, neither),
+        (("--prototypes", "--standard"), 2, neither),
         (("a.c",), 2, "cbrowse-lsp: a.c: no such option\n"),
         (("--root", "nowhere"), 1, "cbrowse-lsp: nowhere: no such folder\n"),
     ]:
@@ -185,6 +204,7 @@ def main() -> int:
         in_git(place)
         odd_names(place)
         bounds(place)
+        profiles(place)
         roots(place)
         input_and_ends(place)
         many(place)
