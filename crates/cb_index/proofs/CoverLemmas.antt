@@ -2,6 +2,7 @@
 use Rattle.std.proofs.Common.{◌≡◌, ◌∙◌, ◌≤◌, ◌<◌, ◌+◌, ℕ, Bool, true, false, List, [], ◌∷◌, ◌++◌}
 use Rattle.std.proofs.Common.{Some, None, refl, sym, ap, append-nil, append_assoc, subst, length}
 use Rattle.std.proofs.Common.{filter, take, drop, cond, suc, arith}
+use Rattle.std.proofs.Math.Bool.{or-false}
 use Rattle.std.proofs.lemmas.Bool.{true≢false}
 use Rattle.std.proofs.lemmas.Bool.Decides.{Decides-eqb}
 use Rattle.std.proofs.lemmas.List.Elements.{filter-append}
@@ -22,7 +23,7 @@ use Rattle.cb_index.specs.Entries.{Keyer, sort_key}
 use Rattle.cb_index.specs.Files.{AreApart, AreAscending, is_shown, shown_key, shown_name}
 use Rattle.cb_index.specs.Files.{shown_under, total}
 use Rattle.cb_index.specs.Held.{Indexed, Lister, all_entries, entries_of}
-use Rattle.cb_index.specs.Names.{AreSingle}
+use Rattle.cb_index.specs.Names.{AreSingle, is_among}
 use Rattle.cb_index.specs.Shelved.{Covers, IsIndexOf}
 use Rattle.cb_index.specs.declared.entry.Entry.{Entry}
 use Rattle.cb_index.specs.declared.entry.Shown.{Shown}
@@ -435,6 +436,18 @@ module _ (keyer : Keyer) (lister : Lister) (a : Archived) where
   covers_unheld one shown x y none is held waiting =
       covers_fewer (λ (s : Shown). not (nat_eq s.name one.name)) shown x y is held
       (waiting ∙ sym (last_stay a one.name x.pending none))
+
+  -- one that is held goes by a pass over all
+  pub covers_passed : (one : Shown) (shown : List Shown) (x y : Indexed)
+      → list_any (λ (s : Shown). nat_eq s.name one.name) x.pending ≡ false
+      → y.held ≡ filter (λ (e : Entry). not (is_among (one.name ∷ []) e.name)) x.held
+      → y.pending ≡ x.pending → Covers keyer lister a shown x
+      → Covers keyer lister a (filter (λ (s : Shown). not (nat_eq s.name one.name)) shown) y
+  covers_passed one shown x y none held waiting is =
+      covers_hidden (λ n. not (nat_eq n one.name)) shown
+      (filter (λ (s : Shown). not (nat_eq s.name one.name)) shown) x y refl
+      (held ∙ (λ i. filter (λ (e : Entry). not (or-false (nat_eq e.name one.name) i)) x.held))
+      (waiting ∙ sym (last_stay a one.name x.pending none)) is
 
   -- ---- what waits is put in order
   pub covers_settled : (shown : List Shown) (x y : Indexed)

@@ -143,7 +143,11 @@ impl Index {
         let pending = self.pending.as_slice();
         let at = place_of(one.name, likely_place(one.name, pending), pending);
         if at == self.pending.len() {
-            self.postings.take_all(self.kind, archive, one);
+            if self.postings.has_few(self.kind, archive, one.version) {
+                self.postings.take_all(self.kind, archive, one);
+            } else {
+                self.postings.take_names(&[one]);
+            }
             return;
         }
         let _one = self.pending.remove(at);

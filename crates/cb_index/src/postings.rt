@@ -51,6 +51,10 @@ use std::marker::Model;
 /// that is put so takes about as long as that many take in a sort of all.
 const FEW: usize = 5;
 
+/// Entries are taken away one after another where they are at most this part of those that are
+/// held. One that is taken so takes about as long as that many in a pass over all.
+const FEW_GONE: usize = 256;
+
 /// The entries of the versions that were put, in the order of one kind, which each call is told. A
 /// second list has room for all of them; there they are sorted where many come in at once.
 #[derive(Drop)]
@@ -348,8 +352,13 @@ impl Postings {
         sort_in(kind, archive, &mut self.scratch, &mut self.blocks);
     }
 
-    /// Takes away the entries of a version under a name, all of which are there. It takes no
-    /// memory, and the room stays.
+    /// Whether the entries of a version are few beside those that are held.
+    pub(crate) fn has_few(&self, kind: IndexKind, archive: &Archive, version: u32) -> bool {
+        count(kind, archive, version) <= self.entries().len() / FEW_GONE
+    }
+
+    /// Takes away the entries of a version under a name, all of which are there, one after another.
+    /// It takes no memory, and the room stays.
     pub(crate) fn take_all(&mut self, kind: IndexKind, archive: &Archive, shown: Shown)
         requires { (rest : List Entry)
             × (self.old.entries ≡ in_order (sort_key (keyer_of kind) archive.now)

@@ -1,4 +1,4 @@
-use Rattle.std.proofs.Common.{rules, ◌≡◌, ◌∙◌, ◌<◌, ◌++◌, List, sym, ap, subst, filter, length}
+use Rattle.std.proofs.Common.{rules, ◌≡◌, ◌∙◌, ◌<◌, ◌++◌, List, [], ◌∷◌, sym, ap, subst, filter, length}
 use Rattle.std.proofs.Common.{nat_eq, arith}
 use Rattle.std.specs.List.{prefix_len, remove}
 use Rattle.std.specs.Prelude.{not}
@@ -7,12 +7,12 @@ use Rattle.cb_index.specs.Archived.{Archived}
 use Rattle.cb_index.specs.Entries.{sort_key}
 use Rattle.cb_index.specs.Held.{Indexed, all_entries, entries_of}
 use Rattle.cb_index.specs.Kinds.{keyer_of, lister_of}
-use Rattle.cb_index.specs.Names.{AreSingle}
+use Rattle.cb_index.specs.Names.{AreSingle, is_among}
 use Rattle.cb_index.specs.declared.entry.Entry.{Entry}
 use Rattle.cb_index.specs.declared.entry.Shown.{Shown}
 use Rattle.cb_index.specs.declared.kind.IndexKind.{IndexKind}
 use Rattle.cb_index.proofs.CoverLemmas.{apart_back, apart_single, covers_held, covers_unheld}
-use Rattle.cb_index.proofs.CoverLemmas.{covers_unwaited, none_waits}
+use Rattle.cb_index.proofs.CoverLemmas.{covers_passed, covers_unwaited, none_waits}
 use Rattle.cb_index.proofs.KeptLemmas.{of_its_kind}
 use Rattle.cb_index.proofs.index.Index.take.Goals as goal
 
@@ -54,8 +54,8 @@ take_all-requires c =
           (lister_of x.kind) a one c.requires.0 x none c.requires.2 c.requires.1),
     )
 
-pub returns-then-at-len : goal.returns-then-at-len
-returns-then-at-len c =
+pub returns-then-has_few : goal.returns-then-has_few
+returns-then-has_few c =
     let x = c.args.self.now in
     let kind : c.self.inside.kind ≡ x.kind = ap (λ (x : Indexed). x.kind) c.self.view_is in
     let a = c.args.archive.now in
@@ -82,6 +82,31 @@ returns-then-at-len c =
           (filter (λ (s : Shown). not (nat_eq s.name one.name)) is.sorted))
           (ap (λ (x : Indexed). x.held) c.self.view_is
           ∙ covers_held (keyer_of x.kind) (lister_of x.kind) a one shown x none under is)) same);
+    }
+
+pub returns-else-has_few : goal.returns-else-has_few
+returns-else-has_few c =
+    let x = c.args.self.now in
+    let kind : c.self.inside.kind ≡ x.kind = ap (λ (x : Indexed). x.kind) c.self.view_is in
+    let a = c.args.archive.now in
+    let one = c.args.one in
+    let same : c.self.inside.pending.items ≡ x.pending =
+    ap (λ (x : Indexed). x.pending) c.self.view_is in
+    let at =
+    c.place_of-at.ensures.place ∙ ap (prefix_len (λ (s : Shown). not (nat_eq s.name one.name)))
+    (c.as_slice-pending.ensures.value ∙ same) in
+    let counted : c.len.result ≡ length c.self.inside.pending.items = search rules in
+    let none =
+    none_waits a one.name x.pending (sym at ∙ c.if-at-len.true ∙ counted ∙ ap length same) in
+    record {
+      itself = search rules;
+      others = λ shown is under.
+          of_its_kind a (filter (λ (s : Shown). not (nat_eq s.name one.name)) shown) x _ kind
+          (covers_passed (keyer_of x.kind) (lister_of x.kind) a one shown x _ none
+          (c.take_names.ensures.entries
+          ∙ ap (λ (x : Indexed). filter
+          (λ (e : Entry). not (is_among (one.name ∷ []) e.name)) x.held) c.self.view_is)
+          same is);
     }
 
 pub returns : goal.returns
