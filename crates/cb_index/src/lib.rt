@@ -72,7 +72,7 @@ pub use names::are_rising;
 pub use range::Rows;
 pub use room::Room;
 pub use row::{CallsByCallee, CallsByCaller, DefsByName, DefsByTagName, Row, RowOrder, UsesByName};
-pub use rows::{FactRow, FactSpot};
+pub use rows::{FactRow, FactSpot, TagSpot};
 pub use shelf::Shelf;
 pub use shown_files::ShownFiles;
 pub use sorted::Sorted;

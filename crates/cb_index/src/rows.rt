@@ -9,15 +9,15 @@ ghost use Rattle.cb_index.specs.steps.Found.{
   no_fact,
   no_tag,
   scope_cut,
-  tag_at,
   tag_of_def,
 };
-ghost use Rattle.cb_index.specs.steps.Left.{fact_of, fact_of_spot};
+ghost use Rattle.cb_index.specs.steps.Left.{fact_of, fact_of_spot, tag_of_spot};
 
 use crate::archive::{Archive, Version};
 use crate::bytes::{bytes_at, cut};
 use crate::entry::Entry;
 use crate::kind::FactKind;
+use crate::orders::name_in;
 use crate::scanned::ScannedSource;
 use cb_scan::{Call, Def, Kind, Source, Tag, Use};
 use cb_tags::{Scope, TagRow};
@@ -92,17 +92,33 @@ fn tag_of_def<'a>(file: &'a [u8], source: &'a Source, def: Option<&Def>) -> TagR
     }
 }
 
-/// The tag of a definition.
-pub(crate) fn tag_at(archive: &Archive, entry: Entry) -> TagRow<'_>
-    ensures { tag_of result ≡ tag_at archive.now entry }
-{
-    let file = archive.name(entry.name);
-    match archive.version(entry.version) {
-        Some(version) => {
-            let def = version.facts().defs().get(entry.number as usize);
-            tag_of_def(file, version.source(), def)
+/// A definition. What stands there is looked up only where it is asked for.
+#[derive(Clone, Copy)]
+pub struct TagSpot<'a> {
+    pub(crate) archive: &'a Archive,
+    pub(crate) entry: Entry,
+}
+
+impl<'a> TagSpot<'a> {
+    /// Its name.
+    pub fn name(self) -> &'a [u8]
+        ensures { result.now ≡ (tag_of_spot self.entry).name }
+    {
+        name_in(self.archive, self.entry.version, self.entry.number)
+    }
+
+    /// Its tag.
+    pub fn row(self) -> TagRow<'a>
+        ensures { tag_of result ≡ tag_of_spot self.entry }
+    {
+        let file = self.archive.name(self.entry.name);
+        match self.archive.version(self.entry.version) {
+            Some(version) => {
+                let def = version.facts().defs().get(self.entry.number as usize);
+                tag_of_def(file, version.source(), def)
+            }
+            None => no_tag(file),
         }
-        None => no_tag(file),
     }
 }
 

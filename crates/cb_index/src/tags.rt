@@ -2,12 +2,12 @@
 ghost use Rattle.std.specs.Prelude.{◌≡◌, ◌∷◌, [], length, MatchOption};
 ghost use Rattle.std.specs.Iterator.{YieldsFirstBy, item_count};
 ghost use Rattle.cb_tags.specs.TagLines.{tag_of};
-ghost use Rattle.cb_index.specs.steps.Left.{defs_left, tags_left};
+ghost use Rattle.cb_index.specs.steps.Left.{defs_left, tag_of_spot, tags_left};
 
 use crate::archive::Archive;
 use crate::def_search::DefSearch;
 use crate::entry::Entry;
-use crate::rows::tag_at;
+use crate::rows::TagSpot;
 use crate::run::Run;
 use cb_tags::TagRow;
 
@@ -54,6 +54,17 @@ impl<'a, 'p> TagRows<'a, 'p> {
             Defs::Searched(search) => search.len(),
         }
     }
+
+    /// Takes the first one, of which nothing is looked up yet.
+    pub fn next_spot(&mut self) -> Option<TagSpot<'a>>
+        ensures { YieldsFirstBy tag_of_spot tags_left self.old result self.new }
+    {
+        let entry = self.defs.take()?;
+        Some(TagSpot {
+            archive: self.archive,
+            entry,
+        })
+    }
 }
 
 impl<'a, 'p> Iterator for TagRows<'a, 'p> {
@@ -64,9 +75,7 @@ impl<'a, 'p> Iterator for TagRows<'a, 'p> {
     ghost remaining = { item_count tags_left };
 
     fn next(&mut self) -> Option<TagRow<'a>> {
-        match self.defs.take() {
-            Some(entry) => Some(tag_at(self.archive, entry)),
-            None => None,
-        }
+        let spot = self.next_spot()?;
+        Some(spot.row())
     }
 }

@@ -4,11 +4,12 @@ ghost use Rattle.std.specs.Iterator.{YieldsFirstBy, item_count};
 ghost use Rattle.std.specs.List.{flat_map};
 ghost use Rattle.cb_scan.specs.Order.{in_order};
 ghost use Rattle.cb_index.specs.Shelved.{files};
+ghost use Rattle.cb_index.specs.steps.Left.{tag_of_spot};
 ghost use Rattle.cb_tags.specs.TagLines.{tag_of};
 ghost use Rattle.cb_desk.specs.Tags.{file_tags, tag_key};
 
 use crate::tags::Format;
-use cb_index::{Shelf, TagRows as IndexedTags};
+use cb_index::{Shelf, TagRows as IndexedTags, TagSpot};
 use cb_tags::TagRow;
 use std::marker::Model;
 
@@ -41,6 +42,13 @@ impl<'a> TagRows<'a> {
         ensures { result ≡ length self.now }
     {
         self.rest.len()
+    }
+
+    /// Takes the first one, of which nothing is looked up yet.
+    pub fn next_spot(&mut self) -> Option<TagSpot<'a>>
+        ensures { YieldsFirstBy tag_of_spot (λ tags. tags) self.old result self.new }
+    {
+        self.rest.next_spot()
     }
 }
 

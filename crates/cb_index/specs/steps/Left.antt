@@ -22,6 +22,7 @@ use Rattle.cb_index.specs.declared.entry.Entry.{Entry}
 use Rattle.cb_index.specs.declared.entry.Shown.{Shown}
 use Rattle.cb_index.specs.declared.rows.FactRow.{FactRow}
 use Rattle.cb_index.specs.declared.rows.FactSpot.{FactSpot}
+use Rattle.cb_index.specs.declared.rows.TagSpot.{TagSpot}
 use Rattle.cb_index.specs.declared.facts.FactRows.{FactRows}
 use Rattle.cb_index.specs.declared.facts.FactSpots.{FactSpots}
 use Rattle.cb_index.specs.declared.facts.Group.{Group}
@@ -57,6 +58,10 @@ fact_of_spot s = record {
 abbrev pub defs_left : Defs → List Entry
 defs_left (Indexed entries) = run_items entries
 defs_left (Searched search) = search_left search
+
+-- what is said where a definition is found: all of it is looked up later
+abbrev pub tag_of_spot : TagSpot → Tag
+tag_of_spot s = tag_at s.archive.now s.entry
 
 abbrev pub tags_left : TagRows → List Tag
 tags_left r = map (tag_at r.archive.now) (defs_left r.defs)
