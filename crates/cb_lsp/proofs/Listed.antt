@@ -1,5 +1,6 @@
 -- Lists of values, as texts.
-use Rattle.std.proofs.Common.{◌≡◌, ℕ, zero, suc, List, [], ◌∷◌, ◌++◌, take, map, refl, sym, ap, ap₂, ◌∙◌}
+use Rattle.std.proofs.Common.{◌≡◌, ◌≤◌, ℕ, zero, suc, List, [], ◌∷◌, ◌++◌, take, map, refl, sym}
+use Rattle.std.proofs.Common.{ap, ap₂, ◌∙◌, arith}
 use Rattle.std.specs.Prelude.{codes}
 use Rattle.json.specs.Print.{escape, escape_byte}
 use Rattle.cb_tags.specs.TagLines.{Tag}
@@ -21,6 +22,21 @@ pub map-map : {A B C : Type 0} (f : B → C) (g : A → B) (xs : List A)
     → map (λ x. f (g x)) xs ≡ map f (map g xs)
 map-map f g [] = refl
 map-map f g (x ∷ xs) = ap (λ ys. f (g x) ∷ ys) (map-map f g xs)
+
+-- of the first of a list the first
+take-take : {A : Type 0} (n m : ℕ) → n ≤ m → (xs : List A) → take n (take m xs) ≡ take n xs
+take-take zero m le xs = refl
+take-take (suc n) zero le xs = grind (arith, le)
+take-take (suc n) (suc m) le [] = refl
+take-take (suc n) (suc m) le (x ∷ xs) =
+    ap (λ ys. x ∷ ys) (take-take n m (omega (arith, le)) xs)
+
+pub take-front : {A : Type 0} (n m : ℕ) → n ≤ m → (xs ys : List A)
+    → take n (xs ++ take m ys) ≡ take n (xs ++ ys)
+take-front n m le [] ys = take-take n m le ys
+take-front zero m le (x ∷ xs) ys = refl
+take-front (suc n) m le (x ∷ xs) ys =
+    ap (λ zs. x ∷ zs) (take-front n m (omega (arith, le)) xs ys)
 
 -- a hover as it is written, and the value that it is
 hover-printed : (text : List ℕ) (r : Range)

@@ -24,9 +24,9 @@ folder_length name = length name - suffix_len (λ b. not (b == 47)) name
 abbrev pub folder_of : List ℕ → List ℕ
 folder_of name = take (folder_length name) name
 
--- a file is the one of a header in the folder of another file
-abbrev pub is_beside : (from header name : List ℕ) → Bool
-is_beside from header name = bytes_eq name (folder_of from ++ header)
+-- a file is the one of a header in a folder
+abbrev pub is_in_folder : (folder header name : List ℕ) → Bool
+is_in_folder folder header name = bytes_eq name (folder ++ header)
 
 -- what stands behind a `./` or a `../` at the front of a header
 abbrev pub after_dots : List ℕ → Option (List ℕ)

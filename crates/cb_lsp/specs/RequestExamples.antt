@@ -6,7 +6,7 @@ use Rattle.json.specs.Json.{no_members, member}
 use Rattle.cb_scan.specs.lex.Lexeme.{is_identifier}
 use Rattle.cb_scan.specs.lex.Reserved.{is_reserved, reserved_words}
 use Rattle.cb_lsp.specs.declared.question.Unasked.TheVariants.{UnknownMethod, BadParameters}
-use Rattle.cb_lsp.specs.Headers.{is_beside, without_dots}
+use Rattle.cb_lsp.specs.Headers.{folder_of, is_in_folder, without_dots}
 use Rattle.cb_lsp.specs.Likes.{holds_like}
 use Rattle.cb_lsp.specs.Params.{has_text, last_of, last_text, number_in, root_in, takes_trees}
 use Rattle.cb_lsp.specs.Params.{takes_utf8}
@@ -147,10 +147,10 @@ pub a_hidden_file_stays : without_dots (codes ".b.h") ≡ codes ".b.h"
 unfolding without_dots
 a_hidden_file_stays = refl
 
-pub beside_it : is_beside (codes "src/a.c") (codes "b.h") (codes "src/b.h") ≡ true
+pub beside_it : is_in_folder (folder_of (codes "src/a.c")) (codes "b.h") (codes "src/b.h") ≡ true
 beside_it = refl
 
-pub elsewhere : is_beside (codes "src/a.c") (codes "b.h") (codes "b.h") ≡ false
+pub elsewhere : is_in_folder (folder_of (codes "src/a.c")) (codes "b.h") (codes "b.h") ≡ false
 elsewhere = refl
 
 pub in_either_case : holds_like (codes "RUN") (codes "do_Run") ≡ true

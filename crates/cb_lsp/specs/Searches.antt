@@ -10,8 +10,12 @@ use Rattle.cb_lsp.specs.Likes.{holds_like}
 use Rattle.cb_lsp.specs.declared.symbols.TheConstants.{MOST_SYMBOLS}
 
 -- a name holds the query, and is not it
+abbrev pub is_name_like : (query name : List ℕ) → Bool
+is_name_like query name = not (bytes_eq name query) && holds_like query name
+
+-- so does the name of a definition
 abbrev pub is_like : List ℕ → Tag → Bool
-is_like query t = not (bytes_eq t.name query) && holds_like query t.name
+is_like query t = is_name_like query t.name
 
 -- the definitions whose name is the query, by file and place, and then those whose name holds it,
 -- by name, file and place: the first of these

@@ -3,6 +3,8 @@ ghost use Rattle.std.specs.Prelude.{◌≡◌, ◌≤◌, ◌++◌, MatchOption,
 ghost use Rattle.std.specs.Option.{option_map};
 ghost use Rattle.json.specs.Json.{Json, array};
 ghost use Rattle.cb_desk.specs.World.{has_file};
+ghost use Rattle.cb_index.specs.Rows.{tags_named};
+ghost use Rattle.cb_index.specs.steps.Left.{tag_of_spot};
 ghost use Rattle.cb_scan.specs.Profiles.{facts_in};
 ghost use Rattle.cb_tags.specs.Writing.{Puts};
 ghost use Rattle.cb_wire.specs.Messages.{id_json};
@@ -27,9 +29,10 @@ ghost use Rattle.cb_lsp.specs.Symbols.{file_place, file_symbol, session_symbol};
 ghost use Rattle.cb_lsp.specs.Words.{word_at};
 ghost use Rattle.cb_lsp.specs.steps.Located.{client_in};
 ghost use Rattle.cb_lsp.specs.steps.Meanings.{meaning_left};
+ghost use Rattle.cb_lsp.specs.declared.symbols.TheConstants.{MOST_SYMBOLS};
 
 use crate::columns::Positions;
-use crate::header::{header_at, is_beside, without_dots};
+use crate::header::{folder_of, header_at, is_in_folder, without_dots};
 use crate::hover::{Hovers, MOST_HOVERS};
 use crate::location::{Forms, Located, range_of};
 use crate::meaning::Meaning;
@@ -37,10 +40,12 @@ use crate::place::bytes_of;
 use crate::question::FileQuestion;
 use crate::symbols::{
     FileDefs, FlatSymbols, HeaderFiles, MOST_SYMBOLS, OneFile, Places, SessionSymbols, TreeSymbols,
+    keep_like, next_like,
 };
 use crate::word::word_at;
 use crate::written::put_null;
 use cb_desk::{Desk, Format};
+use cb_index::TagSpot;
 use cb_scan::{Facts, Source, Span};
 use cb_tags::{Sink, WriteFault};
 use cb_wire::{Elements, Id, MOST_ELEMENTS, Part, Range, place_of_position, put_list_result};
@@ -137,9 +142,10 @@ impl<'a> FileAsked<'a> {
             (folder_of self.now.name.now ++ header.now) ≡ true)
             × (name.now ≡ folder_of self.now.name.now ++ header.now)) }
     {
+        let folder = folder_of(self.name);
         let mut files = self.desk.files();
         'files: while let Some((name, _)) = files.next() {
-            if is_beside(self.name, header, name) {
+            if is_in_folder(folder, header, name) {
                 return Some(name);
             }
         }
@@ -308,7 +314,30 @@ impl<'a> FileAsked<'a> {
     }
 }
 
-/// Writes the symbols of the session that a query names.
+/// Writes the symbols of the session that have a name, and then those that were kept.
+fn put_kept<W: Write>(
+    forms: Forms<'_>,
+    desk: &Desk,
+    out: &mut Sink<W>,
+    id: Id<'_>,
+    query: &[u8],
+    kept: &[TagSpot<'_>],
+) -> Result<(), WriteFault>
+    ensures { Puts out.old out.new result (frame (value_text (result_reply (id_json id.entry)
+        (array (items_of (map (session_symbol (client_in forms.entry) desk.now.timeline.present.files)
+        (take MOST_SYMBOLS (tags_named desk.now.timeline.present.profile query.now
+        desk.now.timeline.present.files ++ map tag_of_spot kept.now)))))))) }
+{
+    let symbols = SessionSymbols {
+        places: Located::new(forms, desk),
+        named: desk.definitions(query),
+        kept,
+    };
+    put_first(out, id, MOST_SYMBOLS, symbols)
+}
+
+/// Writes the symbols of the session that a query names. Those whose name holds it are kept first,
+/// since all names are gone through for them.
 pub(crate) fn put_session_symbols<W: Write>(
     forms: Forms<'_>,
     desk: &Desk,
@@ -320,11 +349,13 @@ pub(crate) fn put_session_symbols<W: Write>(
         (array (items_of (map (session_symbol (client_in forms.entry) desk.now.timeline.present.files)
         (found_by desk.now.timeline.present query.now))))))) }
 {
-    let symbols = SessionSymbols {
-        places: Located::new(forms, desk),
-        query,
-        named: desk.definitions(query),
-        all: desk.tag_rows(Format::Extended),
-    };
-    put_first(out, id, MOST_SYMBOLS, symbols)
+    let mut rows = desk.tag_rows(Format::Extended);
+    match next_like(&mut rows, query) {
+        Some(first) => {
+            let mut kept = [first; MOST_SYMBOLS];
+            let count = keep_like(&mut rows, query, &mut kept);
+            put_kept(forms, desk, out, id, query, &kept[..count])
+        }
+        None => put_kept(forms, desk, out, id, query, &[]),
+    }
 }

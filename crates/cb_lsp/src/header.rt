@@ -6,7 +6,7 @@ ghost use Rattle.cb_lsp.specs.Headers.{
   folder_of,
   header_at,
   holds,
-  is_beside,
+  is_in_folder,
   without_dots,
 };
 
@@ -44,17 +44,20 @@ fn folder_length(name: &[u8]) -> usize
 }
 
 /// The folder of a file, with its slash.
-fn folder_of(name: &[u8]) -> &[u8]
+pub(crate) fn folder_of(name: &[u8]) -> &[u8]
     ensures { result.now ≡ folder_of name.now }
 {
     name.split_at(folder_length(name)).0
 }
 
-/// Whether a file is the one of a header in the folder of another file.
-pub(crate) fn is_beside(from: &[u8], header: &[u8], name: &[u8]) -> bool
-    ensures { result ≡ is_beside from.now header.now name.now }
+/// Whether a file is the one of a header in a folder. Most have another length.
+pub(crate) fn is_in_folder(folder: &[u8], header: &[u8], name: &[u8]) -> bool
+    ensures { result ≡ is_in_folder folder.now header.now name.now }
 {
-    match name.strip_prefix(folder_of(from)) {
+    if name.len() < header.len() || name.len() - header.len() != folder.len() {
+        return false;
+    }
+    match name.strip_prefix(folder) {
         Some(rest) => rest == header,
         None => false,
     }

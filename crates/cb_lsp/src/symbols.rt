@@ -1,10 +1,26 @@
 //! The symbols of a document, of the whole session, and where they are.
-ghost use Rattle.std.specs.Prelude.{◌≡◌, ◌∷◌, [], Bool, MatchOption, false, filter, true};
+ghost use Rattle.std.specs.Prelude.{
+  ◌≡◌,
+  ◌≤◌,
+  ◌++◌,
+  ◌∷◌,
+  [],
+  Bool,
+  MatchOption,
+  false,
+  filter,
+  length,
+  map,
+  take,
+  true,
+};
+ghost use Rattle.std.specs.Iterator.{YieldsFirstBy};
+ghost use Rattle.cb_index.specs.steps.Left.{tag_of_spot};
 ghost use Rattle.cb_tags.specs.TagLines.{tag_of};
 ghost use Rattle.cb_wire.specs.Symbols.{symbol_text, tree_symbol_text};
 ghost use Rattle.cb_wire.specs.Values.{value_text};
 ghost use Rattle.cb_lsp.specs.Headers.{files_named};
-ghost use Rattle.cb_lsp.specs.Searches.{is_like};
+ghost use Rattle.cb_lsp.specs.Searches.{is_like, is_name_like};
 ghost use Rattle.cb_lsp.specs.Symbols.{file_symbol_as, session_symbol};
 ghost use Rattle.cb_lsp.specs.steps.Elements.{
   client_of_defs,
@@ -24,6 +40,7 @@ use crate::meaning::Meaning;
 use crate::place::bytes_of;
 use crate::text::holds_like;
 use cb_desk::{Definitions, Files, TagRows, is_header};
+use cb_index::TagSpot;
 use cb_scan::Def;
 use cb_tags::TagRow;
 use cb_wire::{Elements, Location, Root, Symbol, TreeSymbol};
@@ -188,34 +205,50 @@ fn session_symbol<'a>(places: &mut Located<'a>, row: &TagRow<'a>) -> Symbol<'a>
     }
 }
 
-/// Whether the name of a definition holds the query, and is not it.
-fn is_like(query: &[u8], row: &TagRow<'_>) -> bool
-    ensures { result ≡ is_like query.now (tag_of row.now) }
+/// Whether a name holds the query, and is not it.
+fn is_like(query: &[u8], name: &[u8]) -> bool
+    ensures { result ≡ is_name_like query.now name.now }
 {
-    row.name != query && holds_like(query, row.name)
+    name != query && holds_like(query, name)
 }
 
 /// The next definition whose name holds the query, and is not it.
-fn next_like<'a>(rows: &mut TagRows<'a>, query: &[u8]) -> Option<TagRow<'a>>
-    ensures { MatchOption result (filter (is_like query.now) rows.old ≡ [])
-        (λ row. filter (is_like query.now) rows.old
-        ≡ tag_of row ∷ filter (is_like query.now) rows.new) }
+pub(crate) fn next_like<'a>(rows: &mut TagRows<'a>, query: &[u8]) -> Option<TagSpot<'a>>
+    ensures { YieldsFirstBy tag_of_spot (filter (is_like query.now)) rows.old result rows.new }
 {
-    'rows: while let Some(row) = rows.next() {
-        if is_like(query, &row) {
-            return Some(row);
+    'rows: while let Some(spot) = rows.next_spot() {
+        if is_like(query, spot.name()) {
+            return Some(spot);
         }
     }
     None
 }
 
-/// The definitions of the session whose name is a text, and then those whose name holds it.
+/// Keeps the next such definitions behind one, as many as there is room for. Returned is how many
+/// are kept then.
+pub(crate) fn keep_like<'a>(rows: &mut TagRows<'a>, query: &[u8], kept: &mut [TagSpot<'a>]) -> usize
+    requires { 1 ≤ length kept.old }
+    ensures within { result ≤ length kept.new }
+    ensures kept { map tag_of_spot (take result kept.new) ≡ take (length kept.old)
+        (map tag_of_spot (take 1 kept.old) ++ filter (is_like query.now) rows.old) }
+{
+    let mut count = 1;
+    'kept: while count < kept.len() {
+        match next_like(rows, query) {
+            Some(spot) => kept[count] = spot,
+            None => return count,
+        }
+        count += 1;
+    }
+    count
+}
+
+/// The definitions of the session whose name is a text, and then those that were kept.
 #[derive(Drop)]
 pub(crate) struct SessionSymbols<'a, 'p> {
     pub(crate) places: Located<'a>,
-    pub(crate) query: &'p [u8],
     pub(crate) named: Definitions<'a, 'p>,
-    pub(crate) all: TagRows<'a>,
+    pub(crate) kept: &'p [TagSpot<'a>],
 }
 
 impl<'a, 'p> Elements for SessionSymbols<'a, 'p> {
@@ -226,19 +259,21 @@ impl<'a, 'p> Elements for SessionSymbols<'a, 'p> {
     fn again(&self) -> SessionSymbols<'a, 'p> {
         SessionSymbols {
             places: self.places.again(),
-            query: self.query,
             named: self.named.again(),
-            all: self.all.again(),
+            kept: self.kept,
         }
     }
 
     fn next(&mut self) -> Option<Symbol<'a>> {
         match self.named.next() {
             Some(row) => Some(session_symbol(&mut self.places, &row)),
-            None => {
-                let row = next_like(&mut self.all, self.query)?;
-                Some(session_symbol(&mut self.places, &row))
-            }
+            None => match self.kept {
+                [spot, kept @ ..] => {
+                    self.kept = kept;
+                    Some(session_symbol(&mut self.places, &spot.row()))
+                }
+                [] => None,
+            },
         }
     }
 }

@@ -1,15 +1,15 @@
 -- The elements of lists that are written.
-use Rattle.std.specs.Prelude.{ℕ, Bool, ◌++◌, List, [], ◌∷◌, codes, decimal, map, filter}
+use Rattle.std.specs.Prelude.{ℕ, Bool, ◌++◌, List, [], ◌∷◌, codes, decimal, map}
 use Rattle.std.specs.Prelude.{Option, None, Some, true, false}
 use Rattle.std.specs.Borrow.{Bor}
 use Rattle.json.specs.Print.{escape}
 use Rattle.cb_desk.specs.Answer.{unindented}
+use Rattle.cb_index.specs.steps.Left.{tag_of_spot}
 use Rattle.cb_wire.specs.Texts.{readable}
 use Rattle.cb_wire.specs.Values.{value_text}
 use Rattle.cb_lsp.specs.Clients.{Client}
 use Rattle.cb_lsp.specs.Headers.{files_named}
 use Rattle.cb_lsp.specs.Hovers.{hover_text}
-use Rattle.cb_lsp.specs.Searches.{is_like}
 use Rattle.cb_lsp.specs.Symbols.{file_place, file_symbol_as, place_of, session_symbol}
 use Rattle.cb_lsp.specs.declared.hover.Hover.{Hover}
 use Rattle.cb_lsp.specs.declared.hover.Hovers.{Hovers}
@@ -57,7 +57,7 @@ places_left p =
 abbrev pub session_left : SessionSymbols → List (List ℕ)
 session_left s =
     map (λ t. value_text (session_symbol s.places.client s.places.files t))
-    (s.named ++ filter (is_like s.query.now) s.all)
+    (s.named ++ map tag_of_spot s.kept.now)
 
 abbrev pub files_left : HeaderFiles → List (List ℕ)
 files_left h =
