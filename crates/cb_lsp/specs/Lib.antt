@@ -14,6 +14,7 @@ pub mod Params
 pub mod PlaceExamples
 pub mod Places
 pub mod Questions
+pub mod Ranges
 pub mod RequestExamples
 pub mod Runs
 pub mod Searches

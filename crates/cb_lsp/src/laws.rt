@@ -1,9 +1,24 @@
 //! What follows from the definitions alone: no code runs here.
+ghost use Rattle.std.specs.Prelude.{◌≡◌, ◌≤◌, ℕ, List, Some};
+ghost use Rattle.std.specs.List.{AllByRecursion};
+ghost use Rattle.cb_scan.specs.declared.facts.Def.{Def};
+ghost use Rattle.cb_scan.specs.declared.lex.piece.Span.{Span};
+ghost use Rattle.cb_scan.specs.declared.profile.Profile.{Profile};
+ghost use Rattle.cb_scan.specs.Profiles.{facts_in};
+ghost use Rattle.cb_wire.specs.declared.position.Position.{Position};
+ghost use Rattle.cb_wire.specs.declared.units.Encoding.{Encoding};
+ghost use Rattle.cb_wire.specs.Positions.{place};
+ghost use Rattle.cb_desk.specs.World.{IsAscending, World};
+ghost use Rattle.cb_lsp.specs.Answers.{word_meaning};
+ghost use Rattle.cb_lsp.specs.Places.{line_range, range_of, range_of_line, start_of_file};
+ghost use Rattle.cb_lsp.specs.Ranges.{IsInOrder, IsNameOf, IsNamedIn, LiesInside};
+ghost use Rattle.cb_lsp.specs.Searches.{found_by};
 ghost use Rattle.cb_lsp.specs.Sync.{
   DocumentsStayInSync,
   RequestsChangeNothing,
   WhatIsToldChangedNothing,
 };
+ghost use Rattle.cb_lsp.specs.Words.{word_at};
 
 /// After any messages for which memory was not refused, each document that is open has the text
 /// that its client has, unless its last text was refused and the client was told so.
@@ -16,4 +31,29 @@ pub fn documents_stay_in_sync()
 pub fn refusals_change_nothing()
     ensures told { WhatIsToldChangedNothing }
     ensures requests { RequestsChangeNothing }
+{}
+
+/// The start of a range is not behind its end: of what stands between two places of a text, of a
+/// line, and of the start of a file. The range of a name lies in that of its line.
+pub fn ranges_are_in_order()
+    ensures places { (e : Encoding) (text : List ℕ) (start end : ℕ) → start ≤ end
+        → IsInOrder (range_of e text start end) }
+    ensures line { (e : Encoding) (text : List ℕ) (n : ℕ) → IsInOrder (range_of_line e text n) }
+    ensures file { IsInOrder start_of_file }
+    ensures name { (e : Encoding) (text : List ℕ) (name : Span) → IsNameOf text name
+        → LiesInside (range_of e text name.start name.end) (line_range e text name.start) }
+{}
+
+/// Where an answer has the range of a name, that name stands there: the word at a position; the name
+/// of each definition of a text, by every profile; the name of each definition that a word means or
+/// a query finds, in the text that its file has.
+pub fn ranges_are_of_names()
+    ensures word { (e : Encoding) (text : List ℕ) (p : Position) (word : Span)
+        → word_at text (place e text p) ≡ Some word → IsNameOf text word }
+    ensures definition { (profile : Profile) (text : List ℕ)
+        → AllByRecursion (λ (d : Def). IsNameOf text d.name) (facts_in profile text).defs }
+    ensures meaning { (w : World) (name text : List ℕ) (word : Span) → IsAscending w.files
+        → AllByRecursion (IsNamedIn w.files) (word_meaning w name text word) }
+    ensures found { (w : World) (query : List ℕ) → IsAscending w.files
+        → AllByRecursion (IsNamedIn w.files) (found_by w query) }
 {}

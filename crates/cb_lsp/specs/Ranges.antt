@@ -1,0 +1,36 @@
+-- Ranges in order, and names that stand in a text.
+use Rattle.std.specs.Prelude.{◌≡◌, ◌<◌, ◌≤◌, ◌⊎◌, ◌+◌, ℕ, true, List, length}
+use Rattle.cb_scan.specs.Definitions.{IsWithin}
+use Rattle.cb_scan.specs.declared.lex.piece.Span.{Span}
+use Rattle.cb_scan.specs.lex.Reserved.{is_name}
+use Rattle.cb_scan.specs.lex.Tokens.{bytes_of}
+use Rattle.cb_desk.specs.World.{File, text_of_file}
+use Rattle.cb_tags.specs.TagLines.{Tag}
+use Rattle.cb_wire.specs.declared.position.Position.{Position}
+use Rattle.cb_wire.specs.declared.position.Range.{Range}
+
+-- a position is not behind another: it is on a line before, or on the same at no later column
+abbrev pub IsNotBehind : Position → Position → Type 0
+IsNotBehind p q = (p.line < q.line) ⊎ ((p.line ≡ q.line) × (p.character ≤ q.character))
+
+-- the start of a range is not behind its end
+abbrev pub IsInOrder : Range → Type 0
+IsInOrder r = IsNotBehind r.start r.end
+
+-- a range lies in another: it does not begin before it or end behind it
+abbrev pub LiesInside : (inner outer : Range) → Type 0
+LiesInside inner outer = IsNotBehind outer.start inner.start × IsNotBehind inner.end outer.end
+
+-- a span lies in the text, and a name stands there
+abbrev pub IsNameOf : List ℕ → Span → Type 0
+IsNameOf text span = IsWithin text span × (is_name (bytes_of text span) ≡ true)
+
+-- where the name of a definition is
+abbrev pub span_of : Tag → Span
+span_of t = record { start = t.place; end = t.place + length t.name }
+
+-- the name of a definition stands where it says, in the text that its file has
+abbrev pub IsNamedIn : List File → Tag → Type 0
+IsNamedIn files t =
+    let text = text_of_file files t.file in
+    IsNameOf text (span_of t) × (bytes_of text (span_of t) ≡ t.name)
