@@ -40,7 +40,8 @@ VERSION = re.findall(r"^## (\S+)", NOTES, re.MULTILINE)[0]
 WELCOME = (
     '{"capabilities":{"positionEncoding":"%s",'
     '"textDocumentSync":{"openClose":true,"change":1,"save":true},"hoverProvider":true,'
-    '"definitionProvider":true,"documentSymbolProvider":true,"workspaceSymbolProvider":true},'
+    '"definitionProvider":true,"documentHighlightProvider":true,'
+    '"documentSymbolProvider":true,"workspaceSymbolProvider":true},'
     '"serverInfo":{"name":"cbrowse","version":"%s"}}'
 )
 CAPABILITIES = {
@@ -97,6 +98,11 @@ def symbol(words: str) -> str:
     """NAME=KIND@FILE:LINE:FROM-TO."""
     name, kind, place = re.fullmatch(r"(\w+)=(\d+)@(\S+)", words).groups()
     return '{"name":"%s","kind":%s,"location":%s}' % (name, kind, location(place))
+
+
+def mark(place: str) -> str:
+    """LINE:FROM-TO, marked."""
+    return '{"range":%s}' % span(*place.split(":"))
 
 
 # ---- rows
@@ -215,6 +221,8 @@ def written_by(word: str, rest: str) -> bytes:
         return result(first, after)
     if word == "places":
         return result(first, "[%s]" % ",".join(map(location, after.split())))
+    if word == "marks":
+        return result(first, "[%s]" % ",".join(map(mark, after.split())))
     if word == "symbols":
         return result(first, "[%s]" % ",".join(map(symbol, after.split())))
     if word == "hover":

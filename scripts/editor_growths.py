@@ -27,7 +27,7 @@ FILES = {
 TOO_LARGE = " " * (MOST_BYTES + 1)
 WORDS = ["lsp", "--max-file-bytes", str(MOST_BYTES), *FILES]
 AT_START = [b"cbrowse: " + name + b"out of memory\n" for name in (b"", b"a.c: ", b"b.h: ")]
-OTHERS = ("definition", "hover")  # requests that name a position
+OTHERS = ("definition", "hover", "documentHighlight")  # requests that name a position
 HEAD = re.compile(rb"Content-Length: (\d+)\r\n\r\n")
 
 
@@ -76,6 +76,7 @@ def session() -> list[Step]:
     """The steps of the session. One text has more bytes than there is room for at the start."""
     root = {"rootUri": uri_of("").rstrip("/"), "capabilities": {}}
     named = [asked(3, "definition", "a.c", 2, 9), asked(4, "hover", "a.c", 2, 13)]
+    named.append(asked(10, "documentHighlight", "a.c", 2, 9))
     return [
         Step({"id": 0, "method": "initialize", "params": root}),
         Step({"method": "initialized", "params": {}}),

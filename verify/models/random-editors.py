@@ -256,7 +256,7 @@ class Editor:
 
     def at_place(self) -> dict:
         uri = self.uri()
-        method = self.one("textDocument/definition", "textDocument/hover")
+        method = "textDocument/" + self.one("definition", "hover", "documentHighlight")
         params = {"textDocument": {"uri": uri}, "position": self.position(uri)}
         return self.request(method, params)
 

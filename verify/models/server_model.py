@@ -24,7 +24,8 @@ MOST_SYMBOLS, MOST_HOVERED = 1_000, 8
 WELCOME = (
     b'{"capabilities":{"positionEncoding":"%s",'
     b'"textDocumentSync":{"openClose":true,"change":1,"save":true},"hoverProvider":true,'
-    b'"definitionProvider":true,"documentSymbolProvider":true,"workspaceSymbolProvider":true},'
+    b'"definitionProvider":true,"documentHighlightProvider":true,'
+    b'"documentSymbolProvider":true,"workspaceSymbolProvider":true},'
     b'"serverInfo":{"name":"cbrowse","version":"0.1.0"}}'
 )
 # by the letters of definitions: functions, macros, typedefs, structures, unions, enumerations;
@@ -448,6 +449,7 @@ class Server:
             "shutdown": self.shutdown,
             "textDocument/definition": self.definition,
             "textDocument/hover": self.hover,
+            "textDocument/documentHighlight": self.highlights,
             "textDocument/documentSymbol": self.document_symbol,
             "workspace/symbol": self.workspace_symbol,
         }
@@ -649,6 +651,17 @@ class Server:
         contents = b'{"kind":"plaintext","value":%s}' % quoted(b"\n\n".join(rows))
         span = range_form(text, *word, self.is_utf16)
         return b'{"contents":%s,"range":%s}' % (contents, span)
+
+    def highlights(self, params):
+        file, text, place = self.asked(params)
+        if file is None:
+            return b"null"
+        word = word_at(text, place)
+        name = text[word[0] : word[1]] if word else None
+        found = [it.place for it in self.facts(text).uses if it.name == name]
+        return listed(
+            b'{"range":%s}' % range_form(text, it, it + len(name), self.is_utf16) for it in found
+        )
 
     def document_symbol(self, params):
         file = self.file_of(params)

@@ -362,6 +362,7 @@ class Use(NamedTuple):
     name: bytes
     line: int
     scope: Optional[bytes]
+    place: int
 
 
 class Call(NamedTuple):
@@ -473,7 +474,10 @@ def facts_of(parts, own_functions, named, kinds):
             Definition(name.text, line_of(name.place), kind, local, name.place, *scope)
             for name, kind, local, *scope in named
         ],
-        [Use(token.text, line_of(token.place), scopes.at(token.place)) for token in used],
+        [
+            Use(token.text, line_of(token.place), scopes.at(token.place), token.place)
+            for token in used
+        ],
         [Call(token.text, line_of(token.place), caller) for token, caller in calls],
         [Include(name, line_of(place), scopes.at(place)) for place, name in headers if name],
     )

@@ -4,22 +4,26 @@ use Rattle.std.specs.Prelude.{if◌then◌else◌}
 use Rattle.json.specs.Json.{Json, array, null}
 use Rattle.cb_desk.specs.World.{World, has_file, text_of_file}
 use Rattle.cb_index.specs.Rows.{tags_named}
+use Rattle.cb_scan.specs.declared.facts.Use.{Use}
 use Rattle.cb_scan.specs.declared.lex.piece.Span.{Span}
 use Rattle.cb_scan.specs.lex.Tokens.{bytes_of}
 use Rattle.cb_scan.specs.Profiles.{facts_in}
 use Rattle.cb_tags.specs.TagLines.{Tag}
+use Rattle.cb_wire.specs.declared.units.Encoding.{Encoding}
 use Rattle.cb_wire.specs.Positions.{place}
 use Rattle.cb_wire.specs.Uris.{name_below, path_of}
 use Rattle.cb_wire.specs.Values.{items_of}
 use Rattle.cb_wire.specs.declared.list.TheConstants.{MOST_ELEMENTS}
 use Rattle.cb_lsp.specs.Clients.{Client}
 use Rattle.cb_lsp.specs.Headers.{header_at, header_files}
+use Rattle.cb_lsp.specs.Highlights.{highlight, uses_of}
 use Rattle.cb_lsp.specs.Hovers.{hover_of, hover_texts}
 use Rattle.cb_lsp.specs.Meaning.{meaning}
 use Rattle.cb_lsp.specs.Places.{range_of}
 use Rattle.cb_lsp.specs.Questions.{Asked, in_file, workspace_symbols}
 use Rattle.cb_lsp.specs.declared.question.FileQuestion.{FileQuestion}
 use Rattle.cb_lsp.specs.declared.question.FileQuestion.TheVariants.{Symbols, Definition, Hover}
+use Rattle.cb_lsp.specs.declared.question.FileQuestion.TheVariants.{Highlights}
 use Rattle.cb_lsp.specs.Searches.{found_by}
 use Rattle.cb_lsp.specs.Symbols.{file_place, file_symbol, place_of, session_symbol}
 use Rattle.cb_lsp.specs.Words.{word_at}
@@ -55,6 +59,12 @@ abbrev pub hover_at : Client → World → (name text : List ℕ) → Option Spa
 hover_at c w name text None = null
 hover_at c w name text (Some word) = hover_over c text word (word_meaning w name text word)
 
+-- the uses of a word, as ranges that are marked
+abbrev pub highlights_of : Encoding → (text : List ℕ) → (uses : List Use) → Option Span → Json
+highlights_of e text uses None = list_of []
+highlights_of e text uses (Some word) =
+    list_of (map (highlight e text) (uses_of text (bytes_of text word) uses))
+
 -- ---- of a file
 
 -- a question about the file of this name and text
@@ -66,6 +76,9 @@ answer_in c w name text (Definition p) =
     definition_at c w name text at (header_at (facts_in w.profile text).includes at)
 answer_in c w name text (Hover p) =
     hover_at c w name text (word_at text (place c.encoding text p))
+answer_in c w name text (Highlights p) =
+    highlights_of c.encoding text (facts_in w.profile text).uses
+    (word_at text (place c.encoding text p))
 
 -- the same about a file of this name, if there is one
 abbrev pub answer_named : Client → World → FileQuestion → Option (List ℕ) → Json

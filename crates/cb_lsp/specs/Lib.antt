@@ -4,6 +4,7 @@ pub mod Clients
 pub mod Documents
 pub mod Endings
 pub mod Headers
+pub mod Highlights
 pub mod Hovers
 pub mod Likes
 pub mod Meaning

@@ -7,6 +7,7 @@ use Rattle.cb_wire.specs.declared.position.Position.{Position}
 use Rattle.cb_lsp.specs.Params.{position_in, query_in, uri_in}
 use Rattle.cb_lsp.specs.declared.question.FileQuestion.{FileQuestion}
 use Rattle.cb_lsp.specs.declared.question.FileQuestion.TheVariants.{Symbols, Definition, Hover}
+use Rattle.cb_lsp.specs.declared.question.FileQuestion.TheVariants.{Highlights}
 use Rattle.cb_lsp.specs.declared.question.Unasked.{Unasked}
 use Rattle.cb_lsp.specs.declared.question.Unasked.TheVariants.{UnknownMethod, BadParameters}
 
@@ -34,6 +35,8 @@ asked_by method params =
     then or_bad (at_place Definition (uri_in params) (position_in params))
     else (if bytes_eq method (codes "textDocument/hover")
     then or_bad (at_place Hover (uri_in params) (position_in params))
+    else (if bytes_eq method (codes "textDocument/documentHighlight")
+    then or_bad (at_place Highlights (uri_in params) (position_in params))
     else (if bytes_eq method (codes "workspace/symbol")
     then or_bad (option_map workspace_symbols (query_in params))
-    else Err UnknownMethod)))
+    else Err UnknownMethod))))

@@ -16,6 +16,7 @@ ghost use Rattle.cb_wire.specs.declared.list.TheConstants.{MOST_ELEMENTS};
 ghost use Rattle.cb_lsp.specs.Answers.{
   answer_in,
   definition_at,
+  highlights_of,
   hover_at,
   hover_over,
   list_of,
@@ -33,6 +34,7 @@ ghost use Rattle.cb_lsp.specs.declared.symbols.TheConstants.{MOST_SYMBOLS};
 
 use crate::columns::Positions;
 use crate::header::{folder_of, header_at, is_in_folder, without_dots};
+use crate::highlights::Highlights;
 use crate::hover::{Hovers, MOST_HOVERS};
 use crate::location::{Forms, Located, range_of};
 use crate::meaning::Meaning;
@@ -286,6 +288,40 @@ impl<'a> FileAsked<'a> {
         }
     }
 
+    /// Writes the uses of a word in the file.
+    fn put_highlights<W: Write>(
+        &self,
+        out: &mut Sink<W>,
+        id: Id<'_>,
+        word: Option<Span>,
+    ) -> Result<(), WriteFault>
+        ensures { Puts out.old out.new result (frame (value_text (result_reply (id_json id.entry)
+            (highlights_of self.now.forms.encoding self.now.source.now self.now.facts.now.uses
+            word)))) }
+    {
+        let positions = Positions::new(self.forms.encoding, self.source);
+        match word {
+            Some(word) => put_list(
+                out,
+                id,
+                Highlights {
+                    positions,
+                    name: bytes_of(self.source, word),
+                    rest: self.facts.uses(),
+                },
+            ),
+            None => put_list(
+                out,
+                id,
+                Highlights {
+                    positions,
+                    name: &[],
+                    rest: &[],
+                },
+            ),
+        }
+    }
+
     /// Answers a question about the file.
     pub(crate) fn put_answer<W: Write>(
         &self,
@@ -309,6 +345,10 @@ impl<'a> FileAsked<'a> {
             FileQuestion::Hover(position) => {
                 let place = place_of_position(encoding, text, position);
                 self.put_hover(out, id, word_at(self.source, place))
+            }
+            FileQuestion::Highlights(position) => {
+                let place = place_of_position(encoding, text, position);
+                self.put_highlights(out, id, word_at(self.source, place))
             }
         }
     }

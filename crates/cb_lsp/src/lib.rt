@@ -11,6 +11,7 @@ mod body;
 mod columns;
 mod documents;
 mod header;
+mod highlights;
 mod hover;
 mod kind;
 pub mod laws;

@@ -24,6 +24,8 @@ pub(crate) enum FileQuestion {
     Definition(Position),
     /// What stands at a position.
     Hover(Position),
+    /// The uses in the file of the word at a position.
+    Highlights(Position),
 }
 
 /// A question about the files.
@@ -77,6 +79,15 @@ fn hover<'v, 'a>(call: Call<'v, 'a>) -> Option<Question<'a>>
     Some(Question::InFile(uri, FileQuestion::Hover(position)))
 }
 
+fn highlights<'v, 'a>(call: Call<'v, 'a>) -> Option<Question<'a>>
+    ensures { option_map asked_of result ≡ at_place FileQuestion.Highlights
+        (uri_in (seen call.entry.params)) (position_in (seen call.entry.params)) }
+{
+    let uri = uri_of(call.params)?;
+    let position = position_of(call.params)?;
+    Some(Question::InFile(uri, FileQuestion::Highlights(position)))
+}
+
 fn workspace_symbols<'v, 'a>(call: Call<'v, 'a>) -> Option<Question<'a>>
     ensures { option_map asked_of result
         ≡ option_map workspace_symbols (query_in (seen call.entry.params)) }
@@ -94,6 +105,8 @@ pub(crate) fn question_of<'v, 'a>(call: Call<'v, 'a>) -> Result<Question<'a>, Un
         or_bad(definition(call))
     } else if call.method == "textDocument/hover" {
         or_bad(hover(call))
+    } else if call.method == "textDocument/documentHighlight" {
+        or_bad(highlights(call))
     } else if call.method == "workspace/symbol" {
         or_bad(workspace_symbols(call))
     } else {

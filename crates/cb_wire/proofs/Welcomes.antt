@@ -24,9 +24,10 @@ pub welcome-text : (id : Id) (e : Encoding) (version : List ℕ)
     ++ (escape (encoding_name e)
     ++ (codes "\",\"textDocumentSync\":{\"openClose\":true,\"change\":1,\"save\":true},"
     ++ (codes "\"hoverProvider\":true,\"definitionProvider\":true,"
+    ++ (codes "\"documentHighlightProvider\":true,"
     ++ (codes "\"documentSymbolProvider\":true,\"workspaceSymbolProvider\":true},"
     ++ (codes "\"serverInfo\":{\"name\":\"cbrowse\",\"version\":\""
-    ++ (escape version ++ codes "\"}}}"))))))))
+    ++ (escape version ++ codes "\"}}}")))))))))
 unfolding escape_byte
 welcome-text id e version =
     value_text-is (result_reply (id_json id) (welcome e version))

@@ -1,6 +1,7 @@
 -- Where something stands, as the protocol names it.
 use Rattle.std.specs.Prelude.{ℕ, List, codes}
 use Rattle.json.specs.Json.{Json, string, object, no_members, member}
+use Rattle.cb_wire.specs.declared.location.Highlight.{Highlight}
 use Rattle.cb_wire.specs.declared.location.Location.{Location}
 use Rattle.cb_wire.specs.declared.position.Range.{Range}
 use Rattle.cb_wire.specs.Uris.{Below, uri_of}
@@ -17,3 +18,13 @@ location_tree l = location_of l.root.now l.name.now l.range
 
 abbrev pub location_text : Location → List ℕ
 location_text l = value_text (location_tree l)
+
+-- a range that is marked
+abbrev pub highlight_of : Range → Json
+highlight_of range = object (member (codes "range") (range_tree range) no_members)
+
+abbrev pub highlight_tree : Highlight → Json
+highlight_tree h = highlight_of h.range
+
+abbrev pub highlight_text : Highlight → List ℕ
+highlight_text h = value_text (highlight_tree h)

@@ -21,6 +21,7 @@ ghost use Rattle.json.specs.Json.{Json, array, document, max_depth};
 ghost use Rattle.json.specs.Print.{escape, print};
 ghost use Rattle.json.specs.Tree.{HasNumbers, depth, json_tokens};
 ghost use Rattle.cb_wire.specs.declared.message.Id.{Id};
+ghost use Rattle.cb_wire.specs.declared.location.Highlight.{Highlight};
 ghost use Rattle.cb_wire.specs.declared.location.Location.{Location};
 ghost use Rattle.cb_wire.specs.declared.position.Position.{Position};
 ghost use Rattle.cb_wire.specs.declared.position.Range.{Range};
@@ -52,7 +53,7 @@ ghost use Rattle.cb_wire.specs.Uris.{
   uri_of,
 };
 ghost use Rattle.cb_wire.specs.Lists.{list_text};
-ghost use Rattle.cb_wire.specs.Locations.{location_tree};
+ghost use Rattle.cb_wire.specs.Locations.{highlight_tree, location_tree};
 ghost use Rattle.cb_wire.specs.Symbols.{symbol_tree, tree_symbol_tree};
 ghost use Rattle.cb_wire.specs.Values.{FitsWords, items_of, range_tree, value_text};
 ghost use Rattle.cb_wire.specs.Units.{IsBoundary, IsColumn, column, place_in_line};
@@ -151,12 +152,15 @@ pub fn lists_are_arrays()
         ≡ Some (result_tree id (array (items_of js))) }
 {}
 
-/// A range, a location and a symbol are values that can be written and read back.
+/// A range, a location, a range that is marked and a symbol are values that can be written and read
+/// back.
 pub fn places_are_values()
     ensures range { (r : Range) → FitsWords r
         → HasNumbers (range_tree r) × (depth (range_tree r) ≡ 2) }
     ensures location { (l : Location) → FitsWords l.range
         → HasNumbers (location_tree l) × (depth (location_tree l) ≡ 3) }
+    ensures highlight { (h : Highlight) → FitsWords h.range
+        → HasNumbers (highlight_tree h) × (depth (highlight_tree h) ≡ 3) }
     ensures symbol { (s : Symbol) → s.kind < 2 ^ 64 → FitsWords s.location.range
         → HasNumbers (symbol_tree s) × (depth (symbol_tree s) ≡ 4) }
     ensures tree_symbol { (s : TreeSymbol) → s.kind < 2 ^ 64 → FitsWords s.line

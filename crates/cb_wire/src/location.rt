@@ -1,6 +1,6 @@
 //! Where something stands, as the protocol names it.
 ghost use Rattle.std.specs.Prelude.{◌≡◌};
-ghost use Rattle.cb_wire.specs.Locations.{location_text};
+ghost use Rattle.cb_wire.specs.Locations.{highlight_text, location_text};
 ghost use Rattle.cb_wire.specs.Texts.{parts_text};
 
 use crate::{Element, Part, Range, Root, parts_length, put_parts};
@@ -32,6 +32,37 @@ impl<'a> Location<'a> {
 
 impl Element for Location<'_> {
     ghost text = { location_text };
+
+    fn put<W: Write>(&self, out: &mut Sink<W>) -> Result<(), WriteFault> {
+        put_parts(out, &self.parts())
+    }
+
+    fn length(&self) -> u128 {
+        parts_length(&self.parts())
+    }
+}
+
+/// A range of the file that is asked about, which an editor marks (`DocumentHighlight`).
+#[derive(Clone, Copy, Debug)]
+pub struct Highlight {
+    pub range: Range,
+}
+
+impl Highlight {
+    /// The parts of its text.
+    fn parts(&self) -> [Part<'static>; 3]
+        ensures { parts_text result ≡ highlight_text self.now }
+    {
+        [
+            Part::Raw(b"{\"range\":"),
+            Part::Range(self.range),
+            Part::Raw(b"}"),
+        ]
+    }
+}
+
+impl Element for Highlight {
+    ghost text = { highlight_text };
 
     fn put<W: Write>(&self, out: &mut Sink<W>) -> Result<(), WriteFault> {
         put_parts(out, &self.parts())

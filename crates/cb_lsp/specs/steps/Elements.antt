@@ -9,8 +9,10 @@ use Rattle.cb_wire.specs.Texts.{readable}
 use Rattle.cb_wire.specs.Values.{value_text}
 use Rattle.cb_lsp.specs.Clients.{Client}
 use Rattle.cb_lsp.specs.Headers.{files_named}
+use Rattle.cb_lsp.specs.Highlights.{highlight, uses_of}
 use Rattle.cb_lsp.specs.Hovers.{hover_text}
 use Rattle.cb_lsp.specs.Symbols.{file_place, file_symbol_as, place_of, session_symbol}
+use Rattle.cb_lsp.specs.declared.highlights.Highlights.{Highlights}
 use Rattle.cb_lsp.specs.declared.hover.Hover.{Hover}
 use Rattle.cb_lsp.specs.declared.hover.Hovers.{Hovers}
 use Rattle.cb_lsp.specs.declared.symbols.FileDefs.{FileDefs}
@@ -69,6 +71,11 @@ file_if c (Some name) = value_text (file_place c name.now) ∷ []
 
 abbrev pub file_left : OneFile → List (List ℕ)
 file_left f = file_if (client_in f.forms) f.rest
+
+abbrev pub highlights_left : Highlights → List (List ℕ)
+highlights_left h =
+    map (λ u. value_text (highlight h.positions.encoding h.positions.text u))
+    (uses_of h.positions.text h.name.now h.rest.now)
 
 abbrev pub hovers_left : Hovers → List (List ℕ)
 hovers_left h = map (λ t. escape (hover_text t)) (meaning_left h.rest)

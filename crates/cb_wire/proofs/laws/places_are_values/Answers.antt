@@ -9,6 +9,9 @@ returns-clause-range c = λ r p. (range-numbers r p, refl)
 pub returns-clause-location : goal.returns-clause-location
 returns-clause-location c = λ l p. (location-numbers l p, refl)
 
+pub returns-clause-highlight : goal.returns-clause-highlight
+returns-clause-highlight c = λ h p. ((range-numbers h.range p, tt), refl)
+
 pub returns-clause-symbol : goal.returns-clause-symbol
 returns-clause-symbol c = λ s k p. (symbol-numbers s k p, refl)
 

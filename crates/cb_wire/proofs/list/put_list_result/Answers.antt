@@ -3,7 +3,7 @@ use Rattle.cb_tags.specs.Writing.{Puts}
 use Rattle.cb_tags.proofs.Prefixes.{Puts-after, Puts-fault, PutsPrefix-after, PutsPrefix-more}
 use Rattle.cb_wire.specs.Lists.{list_text}
 use Rattle.cb_wire.specs.Texts.{parts_text}
-use Rattle.cb_wire.proofs.Lists.{result-framed, take-few}
+use Rattle.cb_wire.proofs.Lists.{result-framed}
 use Rattle.cb_wire.proofs.list.put_list_result.Goals as goal
 
 pub returns-in_err-put_result_front : goal.returns-in_err-put_result_front

@@ -13,8 +13,9 @@ returns g c =
     ++ (codes ",\"result\":{\"capabilities\":{\"positionEncoding\":\"" ++ (escape name
     ++ (codes "\",\"textDocumentSync\":{\"openClose\":true,\"change\":1,\"save\":true},"
     ++ (codes "\"hoverProvider\":true,\"definitionProvider\":true,"
+    ++ (codes "\"documentHighlightProvider\":true,"
     ++ (codes "\"documentSymbolProvider\":true,\"workspaceSymbolProvider\":true},"
     ++ (codes "\"serverInfo\":{\"name\":\"cbrowse\",\"version\":\""
-    ++ (escape c.args.version.now ++ codes "\"}}}")))))))))
+    ++ (escape c.args.version.now ++ codes "\"}}}"))))))))))
     c.encoding_name.ensures
     ∙ sym (welcome-text c.args.id c.args.encoding c.args.version.now)) c.put_message.ensures

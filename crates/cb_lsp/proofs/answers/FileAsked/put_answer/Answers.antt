@@ -5,7 +5,7 @@ use Rattle.cb_wire.specs.Positions.{place}
 use Rattle.cb_wire.specs.Texts.{frame}
 use Rattle.cb_wire.specs.Trees.{result_reply}
 use Rattle.cb_wire.specs.Values.{value_text}
-use Rattle.cb_lsp.specs.Answers.{answer_in, definition_at, hover_at, list_of}
+use Rattle.cb_lsp.specs.Answers.{answer_in, definition_at, highlights_of, hover_at, list_of}
 use Rattle.cb_lsp.specs.Headers.{header_at}
 use Rattle.cb_lsp.specs.Symbols.{file_symbol}
 use Rattle.cb_lsp.specs.Words.{word_at}
@@ -61,3 +61,25 @@ returns-in-Hover g c =
     (frame (value_text (result_reply (id_json c.args.id)
     (hover_at cl w f.name.now f.source.now o)))))
     (c.word_at.ensures ∙ ap (word_at f.source.now) at) c.put_hover.ensures)
+
+pub returns-in-Highlights : goal.returns-in-Highlights
+returns-in-Highlights g c =
+    let f = c.args.self.now in
+    let w = f.desk.now.timeline.present in
+    let cl = client_in f.forms in
+    let call = c.put_highlights in
+    let at = c.place_of_position-place-in-Highlights.ensures.value
+    ∙ ap (λ t. place f.forms.encoding t c.in-Highlights.position) c.bytes-text.ensures.value in
+    subst (λ q. Puts c.args.out.now call.new.out call.result
+    (frame (value_text (result_reply (id_json c.args.id)
+    (answer_in cl w f.name.now f.source.now q)))))
+    (sym c.in-Highlights.is)
+    (subst (λ fs. Puts c.args.out.now call.new.out call.result
+    (frame (value_text (result_reply (id_json c.args.id)
+    (highlights_of f.forms.encoding f.source.now fs.uses
+    (word_at f.source.now (place f.forms.encoding f.source.now c.in-Highlights.position)))))))
+    c.requires
+    (subst (λ o. Puts c.args.out.now call.new.out call.result
+    (frame (value_text (result_reply (id_json c.args.id)
+    (highlights_of f.forms.encoding f.source.now f.facts.now.uses o)))))
+    (c.word_at-in-Highlights.ensures ∙ ap (word_at f.source.now) at) call.ensures))
