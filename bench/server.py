@@ -17,10 +17,11 @@ ready     From the start to the reply to `initialize`, and from the start to the
           five, and the least processor time of whole runs. Then the most that each has resident.
           The first question puts definitions in order: its time, that of the same once more, and
           what is resident then.
-ask       `definition` and `hover` at a thousand names in the files that are defined somewhere, and
-          `definition` at a thousand headers, which looks at all files; `documentSymbol` of files of
-          nearly 1,000 lines; `workspace/symbol` by parts of names, and by texts that no name holds.
-          The last two look at all names, unless 1,000 of them hold the text.
+ask       `definition`, `hover` and `documentHighlight` at a thousand names in the files that are
+          defined somewhere, and `definition` at a thousand headers, which looks at all files;
+          `documentSymbol` of files of nearly 1,000 lines; `workspace/symbol` by parts of names, and
+          by texts that no name holds. The last two look at all names, unless 1,000 of them hold the
+          text.
 change    `didChange` of a document of 50 kB and of one of 1 MB, each time another text: until a
           `documentSymbol` of a tiny document behind it is answered. Beside it the same message for
           a document that is not open, which is read and passed over. Then the most that is
@@ -346,7 +347,7 @@ def ask(cbrowse, names, folder, there, dice):
     longest = of_lines(folder, names, LONG)
     server.ask(frame("workspace/symbol", {"query": "main"}, 1))  # puts definitions in order
     nothing = put_nothing(server)
-    for label in "definition", "hover":
+    for label in "definition", "hover", "documentHighlight":
         put_all(label, server, at_places(server, f"textDocument/{label}", found), nothing)
     found = headers(folder, names, ASKED, dice)
     messages = at_places(server, "textDocument/definition", found)

@@ -9,9 +9,9 @@ nvim and emacs with eglot (tried with those of Debian 12: 0.7.2, and 28.2 with 1
 ASCII. An editor that is not there is passed over. What they have to be told was worked out by hand.
 
     Tree      a small tree under git. Definitions of functions, also of static ones, of macros in
-              headers and of headers on `#include` lines; hover; symbols of a document and of the
-              workspace. Columns count behind letters outside ASCII. What git ignores is not found,
-              nor are links; a new file is
+              headers and of headers on `#include` lines; hover; highlights; symbols of a document
+              and of the workspace. Columns count behind letters outside ASCII. What git ignores is
+              not found, nor are links; a new file is
     Edits     definitions follow what is typed before it is saved, and go back where it is undone.
               After a document is closed with its edit thrown away, answers are about the text that
               was saved, or else opened. So it is with a file that was never on disk
@@ -56,6 +56,7 @@ FOLDERS = {"nvim": "a tree \u00e9", "emacs": "a tree"}
 METHODS = {
     "definition": "textDocument/definition",
     "hover": "textDocument/hover",
+    "marks": "textDocument/documentHighlight",
     "symbols": "textDocument/documentSymbol",
     "workspace": "workspace/symbol",
 }
@@ -107,6 +108,7 @@ int area(const struct shape *it);
 NEW = {"src/new.c": "int fresh(void)\n{\n\treturn 0;\n}\n"}
 FUNCTION, MACRO, TYPEDEF, STRUCT, ENUM = 12, 14, 5, 23, 10
 ENUMERATOR, MEMBER, VARIABLE = 22, 8, 13
+ENDS = "start", "end"
 
 # Does the steps of the file `STEPS`, and writes what it was told: JSON, with the milliseconds.
 NVIM_SCRIPT = r"""
@@ -317,6 +319,9 @@ def questions(plan: Plan) -> None:
     helper = "src/main.c:5\nstatic int helper(int a)"
     plan.ask("hover", main, 11, 22, is_now=(helper, 11, 19, 25))
     plan.ask("hover", main, 11, 15, is_now=None)
+    plan.ask("marks", main, 11, 22, is_now=[(4, 11, 17), (11, 19, 25)])  # helper
+    plan.ask("marks", main, 6, 17, is_now=[(6, 12, 17)])  # SIDES
+    plan.ask("marks", main, 11, 15, is_now=[])
     plan.ask("symbols", main, is_now=[("helper", FUNCTION, 4, 11), ("main", FUNCTION, 9, 4)])
     both = [("helper", FUNCTION, main, 4, 11), ("helper", FUNCTION, shape, 1, 11)]
     plan.ask("workspace", main, "helper", is_now=both)
@@ -366,6 +371,7 @@ def edits(plan: Plan) -> None:
     plan.ask("symbols", shape, is_now=told)
     extra = "src/shape.c:6\nint extra(int n)"
     plan.ask("hover", shape, 5, 4, is_now=(extra, 5, 4, 9))
+    plan.ask("marks", shape, 7, 9, is_now=[(5, 14, 15), (7, 8, 9)])  # n, in a text that is not saved
     plan.jump(main, 11, 29, [(shape, 10, 4)])
     plan.do("open", header)
     plan.do("type", header, 2, ["#define EXTRA 1"])
@@ -416,6 +422,9 @@ def plain(method: str, told: object, root: pathlib.Path) -> object:
     if method.endswith("hover"):
         begin, end = told["range"]["start"], told["range"]["end"]
         return told["contents"]["value"], begin["line"], begin["character"], end["character"]
+    if method.endswith("Highlight"):
+        ranges = [it["range"] for it in told]
+        return [(it["start"]["line"], *(it[at]["character"] for at in ENDS)) for it in ranges]
     if method.startswith("workspace"):
         return [(it["name"], it["kind"], *place_of(it["location"], root)) for it in told]
     begins = [(it, it["selectionRange"]["start"]) for it in told]
