@@ -202,7 +202,9 @@ EMACS_SCRIPT = r"""
 (defun open (file)
   (show file)
   (unless (eglot-current-server)
-    (let ((eglot-sync-connect 30)) (apply #'eglot--connect (eglot--guess-contact)))))
+    (let ((eglot-sync-connect 30)) (apply #'eglot--connect (eglot--guess-contact))))
+  (with-timeout (30)  ; where the machine is busy, emacs knows of the server a little later
+    (while (not (eglot-current-server)) (accept-process-output nil 0.05))))
 (defun type (file line lines)
   (at file line 0)
   (undo-boundary)
