@@ -373,7 +373,7 @@ def edits(plan: Plan) -> None:
     plan.ask("symbols", shape, is_now=told)
     extra = "src/shape.c:6\nint extra(int n)"
     plan.ask("hover", shape, 5, 4, is_now=(extra, 5, 4, 9))
-    plan.ask("marks", shape, 7, 9, is_now=[(5, 14, 15), (7, 8, 9)])  # n, in a text that is not saved
+    plan.ask("marks", shape, 7, 9, is_now=[(5, 14, 15), (7, 8, 9)])  # n, which is not saved
     plan.jump(main, 11, 29, [(shape, 10, 4)])
     plan.do("open", header)
     plan.do("type", header, 2, ["#define EXTRA 1"])
