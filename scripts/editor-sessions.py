@@ -290,6 +290,17 @@ def made_rows() -> Iterator[Row]:
         sent = message(id=int(number), method="workspace/symbol", params={"query": query})
         many.append((sent, result(number, "[%s]" % ",".join(chosen))))
     yield Row("over 1,000 symbols", ["lsp", "many.h"], {"many.h": text}, [*opening, *many, *ENDING])
+    # "m" is the name of two, and 1,005 others hold it
+    exact = [symbol(f"m=14@{file}:0:8-9") for file in ("a.h", "b.h")]
+    sent = message(id=1, method="workspace/symbol", params={"query": "m"})
+    reply = result("1", "[%s]" % ",".join(exact + found[:998]))
+    files = {name: b"#define m 1\n" for name in ("a.h", "b.h")}
+    yield Row(
+        "symbols by a name that over 1,000 others hold",
+        ["lsp", "b.h", "many.h", "a.h"],
+        {"many.h": text, **files},
+        [*opening, (sent, reply), *ENDING],
+    )
     last = b'{"jsonrpc":"2.0","id":1,"method":"textDocument/formatting"}'
     bodies = [
         (last.rjust(MOST_BODY), error("1", "-32601", "unknown method")),
