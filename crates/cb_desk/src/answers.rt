@@ -12,6 +12,7 @@ mod row_spot;
 mod rows;
 mod tags;
 mod texts;
+mod uses;
 
 pub use definitions::Definitions;
 pub(crate) use definitions::nth_definition;
@@ -20,3 +21,4 @@ pub(crate) use files::{scanned, shown_as, source, split_named};
 pub use rows::Rows;
 pub use tags::TagRows;
 pub(crate) use tags::tag_rows;
+pub use uses::Uses;

@@ -32,7 +32,7 @@ mod spot;
 mod state;
 mod tags;
 
-pub use answers::{Definitions, Files, Rows, TagRows};
+pub use answers::{Definitions, Files, Rows, TagRows, Uses};
 pub use bounds::Bounds;
 pub use change::Change;
 pub use found::is_header;

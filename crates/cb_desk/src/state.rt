@@ -2,7 +2,7 @@
 ghost use Rattle.std.specs.Prelude.{◌≡◌, ◌≢◌, [], IfErr, IfOk, length};
 ghost use Rattle.std.specs.Option.{option_copied, option_map};
 ghost use Rattle.cb_scan.specs.Profiles.{facts_in};
-ghost use Rattle.cb_index.specs.Rows.{tags_named};
+ghost use Rattle.cb_index.specs.Rows.{calls_in, calls_of, tags_named, uses_of};
 ghost use Rattle.cb_desk.specs.Answer.{answer};
 ghost use Rattle.cb_desk.specs.Desk.{
   Counts,
@@ -29,7 +29,9 @@ ghost use Rattle.cb_desk.specs.World.{IsValidWorld, text_named};
 ghost use Rattle.cb_desk.specs.steps.Walks.{timeline_in};
 
 use crate::history::History;
-use crate::{Bounds, Change, Definitions, Field, Files, Format, Places, Refusal, Rows, TagRows};
+use crate::{
+    Bounds, Change, Definitions, Field, Files, Format, Places, Refusal, Rows, TagRows, Uses,
+};
 use cb_index::{FactKind, IndexKind};
 use cb_scan::{Facts, Meter, Profile, Source, scan};
 use std::alloc::{AllocError, Global};
@@ -316,6 +318,34 @@ impl Desk {
             self.now.timeline.present.files }
     {
         self.history.present().definitions(name)
+    }
+
+    /// The uses of a name in the present world, by file and place, two on one line as two. After
+    /// `settle_for` of the field `Symbol` and the name they are found in an index.
+    pub fn uses<'a, 'p>(&'a self, name: &'p [u8]) -> Uses<'a, 'p>
+        ensures { result ≡ uses_of self.now.timeline.present.profile name.now
+            self.now.timeline.present.files }
+    {
+        self.history.present().uses(name)
+    }
+
+    /// The calls of a function or macro in the present world, by file and place: the name of each
+    /// is the called one, and the name around it the one that calls. After `settle_for` of the
+    /// field `Calling` and the name they are found in an index.
+    pub fn calls_of<'a, 'p>(&'a self, name: &'p [u8]) -> Uses<'a, 'p>
+        ensures { result ≡ calls_of self.now.timeline.present.profile name.now
+            self.now.timeline.present.files }
+    {
+        self.history.present().calls_of(name)
+    }
+
+    /// The calls that stand in the functions and macros of a name, by file and place, named in the
+    /// same way. After `settle_for` of the field `Called` and the name they are found in an index.
+    pub fn calls_in<'a, 'p>(&'a self, name: &'p [u8]) -> Uses<'a, 'p>
+        ensures { result ≡ calls_in self.now.timeline.present.profile name.now
+            self.now.timeline.present.files }
+    {
+        self.history.present().calls_in(name)
     }
 
     /// All definitions of the present world as tags, in the order of a format.

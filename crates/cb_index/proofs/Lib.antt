@@ -8,6 +8,7 @@ pub mod DefSearchLemmas
 pub mod EachLemmas
 pub mod EntryLemmas
 pub mod FactLemmas
+pub mod FactOrderLemmas
 pub mod FewerLemmas
 pub mod FirstLemmas
 pub mod FrontLemmas

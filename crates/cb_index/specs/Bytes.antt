@@ -11,3 +11,8 @@ cut text span =
 abbrev pub bytes_at : List ℕ → Option Span → List ℕ
 bytes_at text None = []
 bytes_at text (Some span) = cut text span
+
+-- where a span begins, if there is one
+abbrev pub place_at : Option Span → Option ℕ
+place_at None = None
+place_at (Some span) = Some span.start

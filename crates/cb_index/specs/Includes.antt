@@ -7,6 +7,7 @@ use Rattle.cb_scan.specs.declared.profile.Profile.{Profile}
 use Rattle.cb_scan.specs.Profiles.{facts_in}
 use Rattle.cb_scan.specs.lex.Tokens.{bytes_of}
 use Rattle.cb_scan.specs.Lines.{line_text}
+use Rattle.cb_index.specs.Bytes.{place_at}
 use Rattle.cb_index.specs.Files.{File}
 use Rattle.cb_index.specs.Rows.{Fact}
 
@@ -15,7 +16,9 @@ abbrev pub include_in : File → Include → Fact
 include_in f i = record {
   file = f.name;
   name = bytes_of f.bytes i.header;
+  place = i.header.start;
   scope = option_map (bytes_of f.bytes) i.scope;
+  scope_place = place_at i.scope;
   line = i.line;
   text = line_text f.bytes i.line;
 }

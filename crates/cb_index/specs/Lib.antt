@@ -4,6 +4,7 @@ pub mod Bytes
 pub mod Compact
 pub mod Counts
 pub mod Entries
+pub mod FactOrder
 pub mod Files
 pub mod Firsts
 pub mod Held

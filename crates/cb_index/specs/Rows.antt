@@ -14,16 +14,19 @@ use Rattle.cb_scan.specs.Lines.{line_text}
 use Rattle.cb_scan.specs.Order.{in_order}
 use Rattle.cb_tags.specs.TagLines.{Tag, TagScope}
 use Rattle.cb_tags.specs.TagNames.{tag_name}
+use Rattle.cb_index.specs.Bytes.{place_at}
 use Rattle.cb_index.specs.Files.{File}
 use Rattle.cb_index.specs.declared.kind.FactKind.{FactKind}
 use Rattle.cb_index.specs.declared.kind.FactKind.TheVariants.{Uses, Callees, Callers}
 
--- a use or a call: the name of its file, its own name, the name around it, its line, from 1, and
--- the text of that line
+-- a use or a call: the name of its file, its own name, the name around it, where each of the two
+-- begins in the text of the file, its line, from 1, and the text of that line
 pub record Fact : Type 0 where
   pub file : List ℕ
   pub name : List ℕ
+  pub place : ℕ
   pub scope : Option (List ℕ)
+  pub scope_place : Option ℕ
   pub line : ℕ
   pub text : List ℕ
 
@@ -77,7 +80,9 @@ abbrev pub use_in : File → Use → Fact
 use_in f u = record {
   file = f.name;
   name = bytes_of f.bytes u.name;
+  place = u.name.start;
   scope = option_map (bytes_of f.bytes) u.scope;
+  scope_place = place_at u.scope;
   line = u.line;
   text = line_text f.bytes u.line;
 }
@@ -87,7 +92,9 @@ abbrev pub call_in : File → Call → Fact
 call_in f c = record {
   file = f.name;
   name = bytes_of f.bytes c.callee;
+  place = c.callee.start;
   scope = Some (bytes_of f.bytes c.caller);
+  scope_place = Some c.caller.start;
   line = c.line;
   text = line_text f.bytes c.line;
 }

@@ -3,7 +3,7 @@ ghost use Rattle.std.specs.Prelude.{◌≡◌, ◌<◌};
 ghost use Rattle.std.specs.Cmp.Lexicographic.{slice_cmp};
 ghost use Rattle.std.specs.List.{All};
 ghost use Rattle.std.specs.Ordering.{nat_cmp};
-ghost use Rattle.cb_index.specs.Bytes.{cut, bytes_at};
+ghost use Rattle.cb_index.specs.Bytes.{cut, bytes_at, place_at};
 
 use cb_scan::{Span, key_prefix};
 use std::cmp::Ordering;
@@ -24,6 +24,16 @@ pub(crate) fn bytes_at(text: &[u8], span: Option<Span>) -> &[u8]
     match span {
         Some(span) => cut(text, span),
         None => &[],
+    }
+}
+
+/// Where a span begins; nowhere where there is no span.
+pub(crate) fn place_at(span: Option<Span>) -> Option<u32>
+    ensures { result ≡ place_at span }
+{
+    match span {
+        Some(span) => Some(span.start),
+        None => None,
     }
 }
 

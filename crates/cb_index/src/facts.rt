@@ -200,7 +200,7 @@ fn first_spot<'a, 'p>(
 }
 
 /// The next fact that is given.
-fn next_spot<'a, 'p>(walk: &mut Walk<'a, 'p>, all: bool) -> Option<FactSpot<'a>>
+fn next_fact<'a, 'p>(walk: &mut Walk<'a, 'p>, all: bool) -> Option<FactSpot<'a>>
     ensures { YieldsFirstBy fact_of_spot (walk_left all) walk.old result walk.new }
 {
     if let Some(group) = &mut walk.group {
@@ -269,6 +269,13 @@ impl<'a, 'p> FactRows<'a, 'p> {
     {
         FactSpots { walk: self.walk }
     }
+
+    /// Takes the first one, whose line is not looked up yet.
+    pub fn next_spot(&mut self) -> Option<FactSpot<'a>>
+        ensures { YieldsFirstBy fact_of_spot facts_left self.old result self.new }
+    {
+        next_fact(&mut self.walk, true)
+    }
 }
 
 /// How many rows entries stand for.
@@ -333,7 +340,7 @@ impl<'a, 'p> Iterator for FactSpots<'a, 'p> {
     ghost remaining = { item_count spots_left };
 
     fn next(&mut self) -> Option<FactSpot<'a>> {
-        next_spot(&mut self.walk, false)
+        next_fact(&mut self.walk, false)
     }
 }
 
@@ -345,7 +352,7 @@ impl<'a, 'p> Iterator for FactRows<'a, 'p> {
     ghost remaining = { item_count facts_left };
 
     fn next(&mut self) -> Option<FactRow<'a>> {
-        let spot = next_spot(&mut self.walk, true)?;
+        let spot = self.next_spot()?;
         Some(spot.row())
     }
 }
@@ -357,7 +364,7 @@ const FEW: usize = 512;
 pub(crate) fn are_few(rows: FactRows<'_, '_>) -> bool {
     let mut left = rows;
     'facts: for _fact in 0..FEW {
-        match left.next() {
+        match left.next_spot() {
             Some(_) => {}
             None => return true,
         }

@@ -12,7 +12,7 @@ ghost use Rattle.cb_index.specs.steps.Includes.{
 };
 ghost use Rattle.cb_index.specs.steps.Left.{entries_left, fact_of};
 
-use crate::bytes::bytes_at;
+use crate::bytes::{bytes_at, place_at};
 use crate::entries::Entries;
 use crate::rows::FactRow;
 use crate::shelf::Shelf;
@@ -43,7 +43,9 @@ fn include_at<'a>(file: &'a [u8], source: &'a Source, include: Include) -> FactR
     FactRow {
         file,
         name: bytes_at(source.bytes(), Some(include.header)),
+        place: include.header.start,
         scope,
+        scope_place: place_at(include.scope),
         line: include.line,
         text: source.shown_line(include.line),
     }

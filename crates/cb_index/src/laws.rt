@@ -1,15 +1,22 @@
-//! What holds of every order, as functions that do nothing and whose contracts are the laws.
-ghost use Rattle.std.specs.Prelude.{◌≡◌, true, not};
+//! What holds of every order, and how uses and calls come, as functions that do nothing and whose
+//! contracts are the laws.
+ghost use Rattle.std.specs.Prelude.{◌≡◌, true, not, List, ℕ};
 ghost use Rattle.std.specs.Cmp.{IsTotalOrder};
 ghost use Rattle.std.specs.Cmp.Lexicographic.{slice_cmp};
 ghost use Rattle.std.specs.Ordering.{is_gt, nat_cmp, on};
 ghost use Rattle.std.specs.declared.cmp.Ordering.TheVariants.{Equal};
+ghost use Rattle.cb_scan.specs.Order.{AreOrdered};
+ghost use Rattle.cb_scan.specs.declared.profile.Profile.{Profile};
 ghost use Rattle.cb_index.specs.Archived.{Archived};
 ghost use Rattle.cb_index.specs.Entries.{sort_key};
+ghost use Rattle.cb_index.specs.FactOrder.{ComesBefore, NamesAscend};
+ghost use Rattle.cb_index.specs.Files.{File};
 ghost use Rattle.cb_index.specs.Kinds.{keyer_of};
 ghost use Rattle.cb_index.specs.RowOrders.{row_key, row_order};
+ghost use Rattle.cb_index.specs.Rows.{facts_named};
 ghost use Rattle.cb_index.specs.Spreads.{RowsAscend, SpreadsInto};
 ghost use Rattle.cb_index.specs.declared.entry.Entry.{Entry};
+ghost use Rattle.cb_index.specs.declared.kind.FactKind.{FactKind};
 ghost use Rattle.cb_index.specs.declared.kind.IndexKind.{IndexKind};
 ghost use Rattle.cb_index.specs.declared.row.Row.{Row};
 
@@ -57,4 +64,11 @@ pub fn ranges_have_the_rows_of_their_keys()
 /// The rows of a key in files whose names ascend stand in the strict order of their kind.
 pub fn rows_of_files_ascend()
     ensures { (kind : IndexKind) → RowsAscend kind }
+{}
+
+/// The uses or calls of a key in files whose names ascend come by file name, and those of one file
+/// by place.
+pub fn facts_come_by_place()
+    ensures { (profile : Profile) (kind : FactKind) (key : List ℕ) (fs : List File)
+        → NamesAscend fs → AreOrdered ComesBefore (facts_named profile kind key fs) }
 {}

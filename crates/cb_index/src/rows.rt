@@ -14,7 +14,7 @@ ghost use Rattle.cb_index.specs.steps.Found.{
 ghost use Rattle.cb_index.specs.steps.Left.{fact_of, fact_of_spot, tag_of_spot};
 
 use crate::archive::{Archive, Version};
-use crate::bytes::{bytes_at, cut};
+use crate::bytes::{bytes_at, cut, place_at};
 use crate::entry::Entry;
 use crate::kind::FactKind;
 use crate::orders::name_in;
@@ -27,8 +27,12 @@ use cb_tags::{Scope, TagRow};
 pub struct FactRow<'a> {
     pub file: &'a [u8],
     pub name: &'a [u8],
+    /// Where its name begins in the text of the file, in bytes.
+    pub place: u32,
     /// The name of the function or macro around it.
     pub scope: Option<&'a [u8]>,
+    /// Where that name begins.
+    pub scope_place: Option<u32>,
     /// From 1.
     pub line: u32,
     /// The whole shown line.
@@ -40,8 +44,12 @@ pub struct FactRow<'a> {
 pub struct FactSpot<'a> {
     pub file: &'a [u8],
     pub name: &'a [u8],
+    /// Where its name begins in the text of the file, in bytes.
+    pub place: u32,
     /// The name of the function or macro around it.
     pub scope: Option<&'a [u8]>,
+    /// Where that name begins.
+    pub scope_place: Option<u32>,
     /// From 1.
     pub line: u32,
     /// The text of the file.
@@ -128,7 +136,9 @@ fn no_fact<'a>(file: &'a [u8], source: &'a Source) -> FactSpot<'a>
     FactSpot {
         file,
         name: b"",
+        place: 0,
         scope: None,
+        scope_place: None,
         line: 0,
         source,
     }
@@ -146,7 +156,9 @@ fn fact_of_use<'a>(file: &'a [u8], source: &'a Source, found: Option<&Use>) -> F
             FactSpot {
                 file,
                 name: bytes_at(source.bytes(), Some(found.name)),
+                place: found.name.start,
                 scope,
+                scope_place: place_at(found.scope),
                 line: found.line,
                 source,
             }
@@ -162,7 +174,9 @@ fn fact_of_call<'a>(file: &'a [u8], source: &'a Source, found: Option<&Call>) ->
         Some(found) => FactSpot {
             file,
             name: bytes_at(source.bytes(), Some(found.callee)),
+            place: found.callee.start,
             scope: Some(bytes_at(source.bytes(), Some(found.caller))),
+            scope_place: Some(found.caller.start),
             line: found.line,
             source,
         },
@@ -178,7 +192,9 @@ impl<'a> FactSpot<'a> {
         FactRow {
             file: self.file,
             name: self.name,
+            place: self.place,
             scope: self.scope,
+            scope_place: self.scope_place,
             line: self.line,
             text: self.source.shown_line(self.line),
         }

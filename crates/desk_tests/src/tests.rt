@@ -6,3 +6,4 @@ mod inputs;
 mod meters;
 mod sessions;
 mod tables;
+mod uses;

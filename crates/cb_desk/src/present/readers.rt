@@ -2,7 +2,7 @@
 ghost use Rattle.std.specs.Prelude.{◌≡◌, ◌≢◌, [], map};
 ghost use Rattle.std.specs.Option.{option_copied, option_map};
 ghost use Rattle.cb_index.specs.Files.{files_of};
-ghost use Rattle.cb_index.specs.Rows.{tags_named};
+ghost use Rattle.cb_index.specs.Rows.{calls_in, calls_of, tags_named, uses_of};
 ghost use Rattle.cb_desk.specs.Answer.{answer};
 ghost use Rattle.cb_desk.specs.Models.{scanned_of};
 ghost use Rattle.cb_desk.specs.Scanned.{scanned_named};
@@ -10,7 +10,7 @@ ghost use Rattle.cb_desk.specs.Tags.{tags};
 ghost use Rattle.cb_desk.specs.World.{AreValidFiles, text_named, widest_bounds};
 ghost use Rattle.cb_desk.specs.steps.Records.{place_in, world_in};
 
-use crate::answers::{Definitions, Files, Rows, TagRows, scanned, source, tag_rows};
+use crate::answers::{Definitions, Files, Rows, TagRows, Uses, scanned, source, tag_rows};
 use crate::places::Places;
 use crate::present::Present;
 use crate::rows::Field;
@@ -54,6 +54,30 @@ impl Present {
             (files_of self.now.archive self.now.now.shown) }
     {
         Definitions::new(&self.shelf, name)
+    }
+
+    /// The uses of a name, by file and place.
+    pub(crate) fn uses<'a, 'p>(&'a self, name: &'p [u8]) -> Uses<'a, 'p>
+        ensures { result ≡ uses_of self.now.archive.profile name.now
+            (files_of self.now.archive self.now.now.shown) }
+    {
+        Uses::uses_of(&self.shelf, name)
+    }
+
+    /// The calls of a name, by file and place.
+    pub(crate) fn calls_of<'a, 'p>(&'a self, name: &'p [u8]) -> Uses<'a, 'p>
+        ensures { result ≡ calls_of self.now.archive.profile name.now
+            (files_of self.now.archive self.now.now.shown) }
+    {
+        Uses::calls_of(&self.shelf, name)
+    }
+
+    /// The calls that stand in what has that name, by file and place.
+    pub(crate) fn calls_in<'a, 'p>(&'a self, name: &'p [u8]) -> Uses<'a, 'p>
+        ensures { result ≡ calls_in self.now.archive.profile name.now
+            (files_of self.now.archive self.now.now.shown) }
+    {
+        Uses::calls_in(&self.shelf, name)
     }
 
     /// The wanted text.

@@ -10,7 +10,7 @@ use Rattle.cb_scan.specs.declared.facts.Kind.TheVariants as kind
 use Rattle.cb_scan.specs.Lines.{line_text}
 use Rattle.cb_tags.specs.TagLines.{Tag, TagScope}
 use Rattle.cb_index.specs.Archived.{Archived, name_of, text_at}
-use Rattle.cb_index.specs.Bytes.{cut}
+use Rattle.cb_index.specs.Bytes.{cut, place_at}
 use Rattle.cb_index.specs.Rows.{Fact}
 use Rattle.cb_index.specs.steps.Spread.{items_from}
 use Rattle.cb_index.specs.Scanned.{Scanned, facts_of}
@@ -58,14 +58,24 @@ tag_at a e = tag_in_text (name_of a e.name) e.number (text_at a e.version)
 
 -- ---- uses and calls
 abbrev pub no_fact : List ℕ → Fact
-no_fact file = record { file = file; name = []; scope = None; line = 0; text = [] }
+no_fact file = record {
+  file = file;
+  name = [];
+  place = 0;
+  scope = None;
+  scope_place = None;
+  line = 0;
+  text = [];
+}
 
 abbrev pub fact_of_use : List ℕ → List ℕ → Option Use → Fact
 fact_of_use file text None = no_fact file
 fact_of_use file text (Some u) = record {
   file = file;
   name = cut text u.name;
+  place = u.name.start;
   scope = option_map (cut text) u.scope;
+  scope_place = place_at u.scope;
   line = u.line;
   text = line_text text u.line;
 }
@@ -75,7 +85,9 @@ fact_of_call file text None = no_fact file
 fact_of_call file text (Some c) = record {
   file = file;
   name = cut text c.callee;
+  place = c.callee.start;
   scope = Some (cut text c.caller);
+  scope_place = Some c.caller.start;
   line = c.line;
   text = line_text text c.line;
 }

@@ -4,7 +4,7 @@ use Rattle.std.specs.List.{flat_map}
 use Rattle.std.specs.Option.{option_map}
 use Rattle.cb_scan.specs.declared.facts.Include.{Include}
 use Rattle.cb_scan.specs.Lines.{line_text}
-use Rattle.cb_index.specs.Bytes.{cut}
+use Rattle.cb_index.specs.Bytes.{cut, place_at}
 use Rattle.cb_index.specs.Rows.{Fact}
 use Rattle.cb_index.specs.Shelved.{ShownFile}
 use Rattle.cb_index.specs.steps.Left.{entries_left}
@@ -16,7 +16,9 @@ abbrev pub include_at : List ℕ → List ℕ → Include → Fact
 include_at file text i = record {
   file = file;
   name = cut text i.header;
+  place = i.header.start;
   scope = option_map (cut text) i.scope;
+  scope_place = place_at i.scope;
   line = i.line;
   text = line_text text i.line;
 }

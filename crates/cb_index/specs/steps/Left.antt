@@ -39,7 +39,9 @@ abbrev pub fact_of : FactRow → Fact
 fact_of r = record {
   file = r.file.now;
   name = r.name.now;
+  place = r.place;
   scope = option_map (λ s. s.now) r.scope;
+  scope_place = r.scope_place;
   line = r.line;
   text = r.text.now;
 }
@@ -49,7 +51,9 @@ abbrev pub fact_of_spot : FactSpot → Fact
 fact_of_spot s = record {
   file = s.file.now;
   name = s.name.now;
+  place = s.place;
   scope = option_map (λ n. n.now) s.scope;
+  scope_place = s.scope_place;
   line = s.line;
   text = line_text s.source.now s.line;
 }

@@ -45,6 +45,26 @@ fn has_facts(rt: &impl Abort, rows: FactRows<'_, '_>, facts: &[(&[u8], u32)]) ->
     Ok(())
 }
 
+/// The names of the facts begin at these places, and the names around them at those.
+fn has_places(
+    rt: &impl Abort,
+    rows: FactRows<'_, '_>,
+    places: &[(u32, Option<u32>)],
+) -> Result<(), Fail> {
+    let mut rows = rows;
+    for (place, scope_place) in places {
+        match rows.next_spot() {
+            Some(spot) => {
+                assert_eq!(rt; spot.place, *place);
+                assert!(rt; spot.scope_place == *scope_place);
+            }
+            None => return Err(Fail::from("too few facts")),
+        }
+    }
+    assert!(rt; rows.next_spot().is_none());
+    Ok(())
+}
+
 /// The definitions of both files, in each order.
 fn shows_definitions(rt: &impl Abort, shelf: &Shelf) -> Result<(), Fail> {
     let tags: [&[u8]; 5] = [b"Mb", b"main", b"TWICE", b"add", b"word"];
@@ -68,6 +88,22 @@ fn shows_facts(rt: &impl Abort, shelf: &Shelf) -> Result<(), Fail> {
     )?;
     let uses = [(b"x".as_slice(), 2), (b"x", 2), (b"x", 2)];
     has_facts(rt, shelf.uses(b"x"), &uses)
+}
+
+/// The places of the same facts, of which three have equal rows.
+fn shows_places(rt: &impl Abort, shelf: &Shelf) -> Result<(), Fail> {
+    has_places(
+        rt,
+        shelf.calling(b"add"),
+        &[(39, Some(23)), (151, Some(130))],
+    )?;
+    has_places(
+        rt,
+        shelf.called_by(b"main"),
+        &[(151, Some(130)), (163, Some(130))],
+    )?;
+    let uses = [(29, Some(23)), (34, Some(23)), (43, Some(23))];
+    has_places(rt, shelf.uses(b"x"), &uses)
 }
 
 /// Puts what is pending in order.
@@ -117,9 +153,11 @@ fn files_come_and_go(
 fn shows_both(rt: &impl Abort, shelf: &mut Shelf) -> Result<(), Fail> {
     shows_definitions(rt, shelf)?;
     shows_facts(rt, shelf)?;
+    shows_places(rt, shelf)?;
     flush_all(shelf);
     shows_definitions(rt, shelf)?;
     shows_facts(rt, shelf)?;
+    shows_places(rt, shelf)?;
     shows_files(rt, shelf, &[b"m.c".as_slice(), b"z/b.c"]);
     assert!(rt;
         shelf.totals()
