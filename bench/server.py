@@ -23,9 +23,10 @@ ask       `definition`, `hover` and `documentHighlight` at a thousand names in t
           by texts that no name holds. The last two look at all names, unless 1,000 of them hold the
           text.
 change    `didChange` of a document of 50 kB and of one of 1 MB, each time another text: until a
-          `documentSymbol` of a tiny document behind it is answered. Beside it the same message for
-          a document that is not open, which is read and passed over. Then the most that is
-          resident, beside what it was before.
+          `documentSymbol` of a tiny document behind it is answered; and the same where one letter
+          is sent, which changes at its place. Beside them the message with a whole text for a
+          document that is not open, which is read and passed over. Then the most that is resident,
+          beside what it was before.
 memory    What is resident after 20 and after 2,000 changes of a document of 50 kB.
 line      `documentSymbol` of a text of one line, `f(){}` again and again, and of one twice as long.
 clangd    The same of clangd with twenty of the files, where it is installed. There is no
@@ -145,10 +146,13 @@ class Server:
         document = {"uri": self.uri(name), "languageId": "c", "version": 1, "text": text}
         self.tell("textDocument/didOpen", {"textDocument": document})
 
-    def change(self, name, text, version=2):
-        """The message that a document has another text."""
+    def change(self, name, text, version=2, place=None):
+        """The message that a document has another text, or another letter at a place."""
         document = {"uri": self.uri(name), "version": version}
         changes = [{"text": text}]
+        if place is not None:
+            start, end = ({"line": place[0], "character": place[1] + more} for more in (0, 1))
+            changes[0]["range"] = {"start": start, "end": end}
         return frame(
             "textDocument/didChange", {"textDocument": document, "contentChanges": changes}
         )
@@ -369,6 +373,13 @@ def changes(server, folder, names, size, count):
     return [server.change(BIG, texts[number % 2]) + question for number in range(count)]
 
 
+def letters(server, text, count):
+    """The same of one letter each time, in the name that a text has of its own."""
+    place = text.count("\n") - 2, len(";int changed_")
+    question = server.symbols(TINY)
+    return [server.change(BIG, str(n % 2), place=place) + question for n in range(count)]
+
+
 def change(cbrowse, names, folder):
     """Changes of documents."""
     server = Server([cbrowse, "lsp", "--"] + names[: MOST_FILES - 2], folder)
@@ -382,6 +393,9 @@ def change(cbrowse, names, folder):
         put_all(f"passed over, {label}", server, messages, nothing)
         server.open(BIG, text_of(folder, names, size))
         put_all(f"didChange, {label}", server, messages, nothing)
+        check_taken(server, (CHANGES - 1) % 2)
+        few = letters(server, text_of(folder, names, size), CHANGES)
+        put_all(f"didChange, a letter of {label}", server, few, nothing)
         check_taken(server, (CHANGES - 1) % 2)
         put_resident(f"memory after {label}", server, before)
         server.tell("textDocument/didClose", server.document(BIG))

@@ -39,7 +39,7 @@ NOTES = (TOP / "docs" / "RELEASES.md").read_text()
 VERSION = re.findall(r"^## (\S+)", NOTES, re.MULTILINE)[0]
 WELCOME = (
     '{"capabilities":{"positionEncoding":"%s",'
-    '"textDocumentSync":{"openClose":true,"change":1,"save":true},"hoverProvider":true,'
+    '"textDocumentSync":{"openClose":true,"change":2,"save":true},"hoverProvider":true,'
     '"definitionProvider":true,"documentHighlightProvider":true,'
     '"documentSymbolProvider":true,"workspaceSymbolProvider":true},'
     '"serverInfo":{"name":"cbrowse","version":"%s"}}'
@@ -172,6 +172,17 @@ def asked(number: str, method: str, name: str, *place: str) -> bytes:
     return message(id=int(number), method=f"textDocument/{method}", params=params)
 
 
+def change(text: str) -> dict:
+    """A change of a document, in a range or as a whole."""
+    found = re.match(r"(\d+):(\d+)-(\d+):(\d+)=", text)
+    if found is None:
+        return {"text": plain(text[1:]).decode()}
+    places = [int(it) for it in found.groups()]
+    ends = [{"line": places[i], "character": places[i + 1]} for i in (0, 2)]
+    new = plain(text[found.end() :]).decode()
+    return {"range": {"start": ends[0], "end": ends[1]}, "text": new}
+
+
 def sent_by(word: str, rest: str) -> Optional[bytes]:
     """The message of a line of a client."""
     first, _, after = rest.partition(" ")
@@ -189,6 +200,12 @@ def sent_by(word: str, rest: str) -> Optional[bytes]:
             first,
             inside={"version": 2},
             contentChanges=[{"text": plain(after).decode()}],
+        ),
+        "parts": lambda: document(
+            "didChange",
+            first,
+            inside={"version": 2},
+            contentChanges=[change(it) for it in after.split(" | ")],
         ),
         "save": lambda: document("didSave", first),
         "close": lambda: document("didClose", first),

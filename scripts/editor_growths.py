@@ -57,6 +57,18 @@ def changed(name: str, text: str) -> Step:
     return Step(made[0], made[1:])
 
 
+def parted(name: str, *parts: tuple[int, str]) -> Step:
+    """Texts are put in place of letters of the first line, in turn."""
+    changes = []
+    for place, text in parts:
+        start, end = ({"line": 0, "character": it} for it in (place, place + 1))
+        changes.append({"range": {"start": start, "end": end}, "text": text})
+    made = [
+        document("didChange", name, contentChanges=it) for it in (changes, [{"text": TOO_LARGE}])
+    ]
+    return Step(made[0], made[1:])
+
+
 def closed(name: str) -> Step:
     instead = [document(it, name) for it in ("didSave", "didClose")]
     return Step(instead[-1], instead)
@@ -91,6 +103,8 @@ def session() -> list[Step]:
         changed("new.c", "int j(void) {\n}\n" + "// \t\n" * 15_000),
         asked(6, "documentSymbol", "new.c", 0, 0),
         changed("new.c", "int k(void) {\n}\n"),
+        parted("new.c", (4, "kk"), (5, "\u00e9l")),
+        asked(12, "documentSymbol", "new.c", 0, 0),
         Step(document("didSave", "new.c")),
         changed("new.c", "int l(void) {\n}\n"),
         asked(7, "documentSymbol", "new.c", 0, 0),

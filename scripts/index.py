@@ -180,7 +180,7 @@ def declared(crate: pathlib.Path, parts: list[str]) -> str:
 def contract_text(function: Function) -> str:
     """Its signature down to the body; of an iterator's turn what its `impl` says."""
     text = text_of(function.file)
-    if function.name.startswith("next"):
+    if function.name in ("next", "next_back"):
         return text[text.rfind("\nimpl", 0, function.start) : function.start]
     found = re.compile(r"^ *\{", re.MULTILINE).search(text, function.start)
     return text[function.start : found.start() if found else function.end]

@@ -7,11 +7,12 @@
 
 Session number n has the seed n. It has files of the command line or none, a profile, bounds and a
 root, and then 3 to 60 messages, more often those that do something where the session stands:
-documents are opened, changed, saved, closed and deleted, and requests ask at names, headers and any
-other place, in both encodings, for lists and trees. Texts have CR LF, lone CRs, letters outside
-ASCII and, in files and in messages, bytes that are no UTF-8. Some messages have wrong parameters,
-ids or members, are no JSON or have odd heads; some inputs end within a message. The input comes in
-random pieces. Standard output, standard error and the status are compared with `server_model.py`.
+documents are opened, changed as a whole and in parts, saved, closed and deleted, and requests ask
+at names, headers and any other place, in both encodings, for lists and trees. Texts have CR LF,
+lone CRs, letters outside ASCII and, in files and in messages, bytes that are no UTF-8. Some
+messages have wrong parameters, ids or members, are no JSON or have odd heads; some inputs end
+within a message. The input comes in random pieces. Standard output, standard error and the status
+are compared with `server_model.py`.
 
 At the first difference the seed, the input and both outputs are shown and the exit status is 1.
 Else lines tell how often each message was sent and each reply came.
@@ -230,14 +231,34 @@ class Editor:
         document = {"uri": self.uri(), "languageId": "c", "version": 1, "text": self.sent_text()}
         return self.notice("textDocument/didOpen", {"textDocument": document})
 
+    def part(self, uri: str) -> dict:
+        """A change of a part of a document, of which a range or a text may be wrong."""
+        places = [self.position(uri) for _ in range(self.one(1, 2, 2))]
+        if self.chance(0.9):
+            places.sort(key=lambda it: (it["line"], it["character"]))
+        texts = "", self.one(*WORDS), self.one(*ODD), self.one(*DEFINING)
+        text = self.one(*texts) if self.chance(0.95) else self.sent_text()
+        change: dict = {"range": {"start": places[0], "end": places[-1]}, "text": text}
+        if self.chance(0.05):
+            change["rangeLength"] = self.one(0, 3, *WRONG)
+        if self.chance(0.04):
+            change["range"] = self.one(None, {}, 7, [], {"start": places[0]}, {"end": places[0]})
+        if self.chance(0.02):
+            end = change["range"].get("end") if isinstance(change["range"], dict) else None
+            if end is not None:
+                change["range"]["end"] = {**end, "character": self.one(-1, 0.5, "0", None, 2**64)}
+        return change
+
     def change(self) -> dict:
-        texts = [{"text": self.sent_text()} for _ in range(self.one(1, 1, 1, 1, 0, 2, 3))]
-        if texts and self.chance(0.1):
-            place = {"line": 0, "character": 0}
-            self.one(*texts)["range"] = {"start": place, "end": place}
-        document = {"uri": self.uri(), "version": 2}
+        uri = self.uri()
+        whole = self.one(0.1, 0.5, 0.9)
+        changes = [
+            {"text": self.sent_text()} if self.chance(whole) else self.part(uri)
+            for _ in range(self.one(1, 1, 1, 1, 0, 2, 3))
+        ]
+        document = {"uri": uri, "version": 2}
         return self.notice(
-            "textDocument/didChange", {"textDocument": document, "contentChanges": texts}
+            "textDocument/didChange", {"textDocument": document, "contentChanges": changes}
         )
 
     def save(self) -> dict:

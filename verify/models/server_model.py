@@ -23,7 +23,7 @@ MOST_HEAD, MOST_BODY, MOST_DEPTH = 4_096, 16_000_000, 128
 MOST_SYMBOLS, MOST_HOVERED = 1_000, 8
 WELCOME = (
     b'{"capabilities":{"positionEncoding":"%s",'
-    b'"textDocumentSync":{"openClose":true,"change":1,"save":true},"hoverProvider":true,'
+    b'"textDocumentSync":{"openClose":true,"change":2,"save":true},"hoverProvider":true,'
     b'"definitionProvider":true,"documentHighlightProvider":true,'
     b'"documentSymbolProvider":true,"workspaceSymbolProvider":true},'
     b'"serverInfo":{"name":"cbrowse","version":"0.1.0"}}'
@@ -343,6 +343,42 @@ class Document(NamedTuple):
     is_lost: bool = False
 
 
+class Change(NamedTuple):
+    """A change of a document: another text, or one in place of what stands in a range."""
+
+    text: bytes
+    start: Optional[tuple[int, int]] = None
+    end: Optional[tuple[int, int]] = None
+
+    def made_in(self, text, is_utf16):
+        """The text after it; none where a part would be put into no text."""
+        if self.start is None:
+            return self.text
+        if text is None:
+            return None
+        start = place_of(text, *self.start, is_utf16)
+        end = max(start, place_of(text, *self.end, is_utf16))
+        return text[:start] + self.text + text[end:]
+
+
+def changes_of(params):
+    """The changes of a notification."""
+    listed = member(params, "contentChanges")
+    if not isinstance(listed, list):
+        raise BAD_PARAMETERS
+    changes = []
+    for one in listed:
+        text, places = string_of(one, "text"), ()
+        if member(one, "range") is not None:
+            names = "line", "character"
+            places = [
+                tuple(natural(one, "range", end, name) for name in names)
+                for end in ("start", "end")
+            ]
+        changes.append(Change(text, *places))
+    return changes
+
+
 class Place(NamedTuple):
     """A definition in its file."""
 
@@ -521,19 +557,22 @@ class Server:
         name = self.file_of(params)
         if name not in self.documents:
             return
-        kept, changes = self.documents[name].kept, member(params, "contentChanges")
-        texts = [member(change, "text") for change in changes] if isinstance(changes, list) else [7]
-        is_part = isinstance(changes, list) and any(
-            isinstance(change, dict) and "range" in change for change in changes
-        )
-        if is_part or not all(isinstance(text, str) for text in texts):
+        kept, is_lost = self.documents[name]
+        try:
+            changes = changes_of(params)
+        except Error:
             self.lose(name, kept, b"bad parameters")
-        elif texts:
-            refusal = self.store(name, texts[-1].encode())
-            if refusal is None:
-                self.documents[name] = Document(kept)
-            else:
-                self.lose(name, kept, refusal)
+            return
+        text = None if is_lost else self.world.files[name]
+        for change in changes:
+            text = change.made_in(text, self.is_utf16)
+        if not changes or text is None:
+            return
+        refusal = self.store(name, text)
+        if refusal is None:
+            self.documents[name] = Document(kept)
+        else:
+            self.lose(name, kept, refusal)
 
     def did_save(self, params):
         name = self.file_of(params)

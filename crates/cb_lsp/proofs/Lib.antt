@@ -1,5 +1,6 @@
 pub mod Answered
 pub mod Asked
+pub mod Changes
 pub mod Closed
 pub mod DocumentPlaces
 pub mod Events

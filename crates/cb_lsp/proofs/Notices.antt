@@ -58,7 +58,8 @@ noticed-unread n s params uri named = rw (← named)
 
 pub noticed-name : (n : Notice) (refusals : List Bool) (s : Serving) (params : Option Json)
     (path name : List ℕ) → name ≡ name_below s.client.root.path path → is_file_name name ≡ true
-    → moved s name (told_of n refusals s.work params name) ≡ noticed_at n refusals s params path
+    → moved s name (told_of s.client.encoding n refusals s.work params name)
+    ≡ noticed_at n refusals s params path
 noticed-name n refusals s params path name is good = rw (← is, good)
 
 pub noticed-bad : (n : Notice) (s : Serving) (params : Option Json) (path name : List ℕ)

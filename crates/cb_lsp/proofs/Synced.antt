@@ -16,14 +16,17 @@ use Rattle.cb_desk.specs.Step.{load, reload, step, unless_refused, unload}
 use Rattle.cb_desk.specs.World.{File, World, has_file, text_of_file}
 use Rattle.cb_desk.proofs.PlaceLemmas.{is-gone, name-same, same-name, text-with, text-with-here}
 use Rattle.cb_desk.proofs.PlaceLemmas.{text-without}
+use Rattle.cb_wire.specs.declared.units.Encoding.{Encoding}
+use Rattle.cb_lsp.specs.Changes.{TextChange, or_else, text_by}
 use Rattle.cb_lsp.specs.declared.notice.Notice.{Notice}
 use Rattle.cb_lsp.specs.declared.notice.Notice.TheVariants.{Open, Change, Save, Close, Files}
 use Rattle.cb_lsp.specs.declared.server.Stage.{Stage}
 use Rattle.cb_lsp.specs.declared.server.Stage.TheVariants.{Fresh, Running, Down}
 use Rattle.cb_lsp.specs.Documents.{Document, Kept, Work, after_change, after_close, after_open}
-use Rattle.cb_lsp.specs.Documents.{after_removal, changed_to, closed_to, document_of}
+use Rattle.cb_lsp.specs.Documents.{after_removal, changed_into, changed_to, closed_to, document_of}
 use Rattle.cb_lsp.specs.Documents.{if_open, is_named, is_open, kept_from, lost, nothing}
-use Rattle.cb_lsp.specs.Documents.{present, removed, saved_as, text, text_step}
+use Rattle.cb_lsp.specs.Documents.{present, removed, saved_as, text, text_of_document, text_step}
+use Rattle.cb_lsp.specs.Documents.{text_unless}
 use Rattle.cb_lsp.specs.Documents.{with_document, without_document}
 use Rattle.cb_lsp.specs.Messages.{Message, Serving, all_happened, bad_name, does}
 use Rattle.cb_lsp.specs.Messages.{ends_as_c, fresh_server, happened, happened_in}
@@ -31,11 +34,12 @@ use Rattle.cb_lsp.specs.Messages.{is_opening, moved, notice_of, noticed_as, noti
 use Rattle.cb_lsp.specs.Messages.{noticed_if, noticed_of, noticed_on, not_json, not_request}
 use Rattle.cb_lsp.specs.Messages.{notification, opened_with, removed_at, removed_of, reply, replies}
 use Rattle.cb_lsp.specs.Messages.{request, show_of, stays, told_of, too_large}
-use Rattle.cb_lsp.specs.Params.{document_text, is_deletion, items_in, last_text, member_of}
+use Rattle.cb_lsp.specs.Params.{changes_in, document_text, is_deletion, items_in, member_of}
 use Rattle.cb_lsp.specs.Params.{text_in, uri_in}
-use Rattle.cb_lsp.specs.Sync.{AreInSync, DocumentsStayInSync, Sent, after_all, last_or, name_at}
+use Rattle.cb_lsp.specs.Sync.{AreInSync, DocumentsStayInSync, Sent, after_all, name_at}
 use Rattle.cb_lsp.specs.Sync.{name_of, nothing_sent, sent_after, sent_at, sent_if, sent_in_all}
-use Rattle.cb_lsp.specs.Sync.{sent_of, text_after, text_or, with_text}
+use Rattle.cb_lsp.specs.Sync.{sent_of, text_after, text_changed, text_or, text_through, with_text}
+use Rattle.cb_lsp.proofs.Changes.{healed, same-text}
 use Rattle.cb_lsp.proofs.Opened.{closed-document}
 use Rattle.cb_lsp.proofs.Untouched.{requests_change_nothing}
 
@@ -308,20 +312,85 @@ module _ (w : Work) (sent : Sent) (good : Good w sent) where
       }) u (Some bytes) g.others (λ _. ap Some (sym g.here))
   changes d bytes (Err why) made = loses d (text_of why) (Some bytes)
 
-  changes-to : (d : Document) (last : Option (Option (List ℕ)))
-      → Good (changed_to false w d last).work (with_text d.name (last_or (sent d.name) last) sent)
-  changes-to d None = loses d (codes "bad parameters") (sent d.name)
-  changes-to d (Some None) = same-good d.name (sent d.name) refl
-  changes-to d (Some (Some bytes)) = changes d bytes _ refl
+  -- a document that is lost and stays so
+  lost-good : (name : List ℕ) (d : Document) (t : Option (List ℕ))
+      → document_of w.documents name ≡ Some d → d.lost ≡ true → Good w (with_text name t sent)
+  lost-good name d t is gone = record {
+    synced = λ n f found kept.
+        (elim (bytes_eq name n) as (λ b. bytes_eq name n ≡ b
+        → cond b t (sent n) ≡ Some (text_of_file w.world.files n)) [
+          | true ↦ λ h.
+              let there : document_of w.documents n ≡ Some d =
+              subst (λ m. document_of w.documents m ≡ Some d) (same-name name n h) is in
+              let same : d ≡ f = cc in
+              absurd (true≢false (sym gone ∙ ap (λ (x : Document). x.lost) same ∙ kept))
+          | false ↦ λ h. good.synced n f found kept
+        ]) refl;
+    apart = good.apart;
+  }
 
-  changes-if : (name : List ℕ) (last : Option (Option (List ℕ))) (o : Option Document)
-      → document_of w.documents name ≡ o
-      → Good (if_open (λ d. changed_to false w d last) w o).work
-      (with_text name (last_or (sent name) last) sent)
-  changes-if name last None found = closed-good name (last_or (sent name) last) found
-  changes-if name last (Some d) found =
-      subst (λ n. Good (changed_to false w d last).work (with_text n (last_or (sent n) last) sent))
-      (found-name w.documents name d found) (changes-to d last)
+  -- what the changes of a client lead to is what they lead to here, and where they lead to nothing
+  -- a document has the text before, or is lost
+  changes-into : (e : Encoding) (d : Document) (cs : List TextChange) (o : Option (List ℕ))
+      → document_of w.documents d.name ≡ Some d → text_by e (text_of_document w d) cs ≡ o
+      → Good (changed_into false w d o).work
+      (with_text d.name (text_through e (sent d.name) cs) sent)
+  changes-into e d cs o found made =
+      (elim d.lost as (λ l. d.lost ≡ l
+      → text_by e (text_unless l (text_of_file w.world.files d.name)) cs ≡ o
+      → Good (changed_into false w d o).work
+      (with_text d.name (text_through e (sent d.name) cs) sent)) [
+        | true ↦ λ gone none.
+            (elim o as (λ q. text_by e None cs ≡ q → Good (changed_into false w d q).work
+            (with_text d.name (text_through e (sent d.name) cs) sent)) [
+              | None ↦ λ h. lost-good d.name d (text_through e (sent d.name) cs) found gone
+              | Some bytes ↦ λ h.
+                  let same : text_through e (sent d.name) cs ≡ Some bytes =
+                  healed e cs (sent d.name) bytes
+                  (same-text e None cs ∙ ap (λ t. or_else t None) h) in
+                  subst (λ t. Good (changed_into false w d (Some bytes)).work
+                  (with_text d.name t sent)) (sym same) (changes d bytes _ refl)
+            ]) none
+        | false ↦ λ kept made_here.
+            let before = good.synced d.name d found kept in
+            let after : text_through e (sent d.name) cs
+            ≡ or_else (text_by e (Some (text_of_file w.world.files d.name)) cs)
+            (Some (text_of_file w.world.files d.name)) =
+            ap (λ t. text_through e t cs) before
+            ∙ same-text e (Some (text_of_file w.world.files d.name)) cs in
+            (elim o as (λ q. text_by e (Some (text_of_file w.world.files d.name)) cs ≡ q
+            → Good (changed_into false w d q).work
+            (with_text d.name (text_through e (sent d.name) cs) sent)) [
+              | None ↦ λ h.
+                  same-good d.name (text_through e (sent d.name) cs)
+                  (after ∙ ap (λ t. or_else t (Some (text_of_file w.world.files d.name))) h
+                  ∙ sym before)
+              | Some bytes ↦ λ h.
+                  let same : text_through e (sent d.name) cs ≡ Some bytes =
+                  after ∙ ap (λ t. or_else t (Some (text_of_file w.world.files d.name))) h in
+                  subst (λ t. Good (changed_into false w d (Some bytes)).work
+                  (with_text d.name t sent)) (sym same) (changes d bytes _ refl)
+            ]) made_here
+      ]) refl made
+
+  changes-to : (e : Encoding) (d : Document) (o : Option (List TextChange))
+      → document_of w.documents d.name ≡ Some d
+      → Good (changed_to e false w d o).work
+      (with_text d.name (text_changed e (sent d.name) o) sent)
+  changes-to e d None found = loses d (codes "bad parameters") (sent d.name)
+  changes-to e d (Some cs) found =
+      changes-into e d cs (text_by e (text_of_document w d) cs) found refl
+
+  changes-if : (e : Encoding) (name : List ℕ) (cs : Option (List TextChange))
+      (o : Option Document) → document_of w.documents name ≡ o
+      → Good (if_open (λ d. changed_to e false w d cs) w o).work
+      (with_text name (text_changed e (sent name) cs) sent)
+  changes-if e name cs None found = closed-good name (text_changed e (sent name) cs) found
+  changes-if e name cs (Some d) found =
+      let named = found-name w.documents name d found in
+      subst (λ n. Good (changed_to e false w d cs).work
+      (with_text n (text_changed e (sent n) cs) sent)) named
+      (changes-to e d cs (subst (λ n. document_of w.documents n ≡ Some d) (sym named) found))
 
   saves-as : (d : Document) (b : Bool) → d.lost ≡ b → document_of w.documents d.name ≡ Some d
       → Good (saved_as w d b).work (with_text d.name (sent d.name) sent)
@@ -355,14 +424,14 @@ module _ (w : Work) (sent : Sent) (good : Good w sent) where
   closes-if name None found = closed-good name None found
   closes-if name (Some d) found = closes-to name d.kept
 
-  tells : (notice : Notice) (params : Option Json) (name : List ℕ)
-      → Good (told_of notice [] w params name).work
-      (with_text name (text_after notice params (sent name)) sent)
-  tells Open params name = opens-if name (document_text params)
-  tells Change params name = changes-if name (last_text params) _ refl
-  tells Save params name = saves-if name _ refl
-  tells Close params name = closes-if name _ refl
-  tells Files params name = same-good name (sent name) refl
+  tells : (e : Encoding) (notice : Notice) (params : Option Json) (name : List ℕ)
+      → Good (told_of e notice [] w params name).work
+      (with_text name (text_after e notice params (sent name)) sent)
+  tells e Open params name = opens-if name (document_text params)
+  tells e Change params name = changes-if e name (changes_in params) _ refl
+  tells e Save params name = saves-if name _ refl
+  tells e Close params name = closes-if name _ refl
+  tells e Files params name = same-good name (sent name) refl
 
   -- a file without a document goes away
   goes : (name : List ℕ) (r : Result World Refusal) → step w.world (unload name) ≡ r
@@ -422,15 +491,15 @@ module _ (s : Serving) (sent : Sent) (good : Good s.work sent) where
 
   at-good : (notice : Notice) (params : Option Json) (o : Option (List ℕ))
       → Good (noticed_on notice [] s params o).server.work
-      (sent_of sent notice params (name_at s.client.root.path o))
+      (sent_of s.client.encoding sent notice params (name_at s.client.root.path o))
   at-good notice params None = good
   at-good notice params (Some path) =
       let name = name_below s.client.root.path path in
       elim (is_file_name name) as (λ b. Good
-      (cond b (moved s name (told_of notice [] s.work params name))
+      (cond b (moved s name (told_of s.client.encoding notice [] s.work params name))
       (bad_name s notice path)).server.work
-      (sent_of sent notice params (cond b (Some name) None))) [
-        | true ↦ tells s.work sent good notice params name
+      (sent_of s.client.encoding sent notice params (cond b (Some name) None))) [
+        | true ↦ tells s.work sent good s.client.encoding notice params name
         | false ↦ elim (ends_as_c path && is_opening notice) as (λ b. Good (cond b
             (replies s (show_of (escaped path) (codes "bad name"))) (stays s)).server.work sent)
             [ true ↦ good | false ↦ good ]
@@ -438,7 +507,7 @@ module _ (s : Serving) (sent : Sent) (good : Good s.work sent) where
 
   of-good : (notice : Notice) (params : Option Json) (o : Option (List ℕ))
       → Good (noticed_of notice [] s params o).server.work
-      (sent_of sent notice params (name_of s.client.root.path o))
+      (sent_of s.client.encoding sent notice params (name_of s.client.root.path o))
   of-good notice params None = good
   of-good notice params (Some uri) = at-good notice params (path_of uri)
 
@@ -457,13 +526,14 @@ happened-in-good s sent good (Some events) = all-good s sent good events
 module _ (s : Serving) (sent : Sent) (good : Good s.work sent) where
   -- what a client has does not change by file events
   files-good : (params : Option Json) (w : Work) → Good w sent → (o : Option (List ℕ))
-      → Good w (sent_of sent Files params o)
+      → Good w (sent_of s.client.encoding sent Files params o)
   files-good params w so None = so
   files-good params w so (Some name) = same-good w sent so name (sent name) refl
 
   as-good : (notice : Notice) (params : Option Json)
       → Good (noticed_as notice [] s params).server.work
-      (sent_of sent notice params (name_of s.client.root.path (uri_in params)))
+      (sent_of s.client.encoding sent notice params
+      (name_of s.client.root.path (uri_in params)))
   as-good Open params = of-good s sent good Open params (uri_in params)
   as-good Change params = of-good s sent good Change params (uri_in params)
   as-good Save params = of-good s sent good Save params (uri_in params)
@@ -474,13 +544,13 @@ module _ (s : Serving) (sent : Sent) (good : Good s.work sent) where
       (name_of s.client.root.path (uri_in params))
 
   if-good : (o : Option Notice) (params : Option Json)
-      → Good (noticed_if o [] s params).server.work (sent_if sent s.client.root.path o params)
+      → Good (noticed_if o [] s params).server.work (sent_if s.client sent o params)
   if-good None params = good
   if-good (Some notice) params = as-good notice params
 
   by-good : (stage : Stage) (method : List ℕ) (params : Option Json)
       → Good (noticed_by stage [] s method params).server.work
-      (sent_at stage sent s.client.root.path method params)
+      (sent_at stage s.client sent method params)
   by-good Running method params = if-good (notice_of method) params
   by-good Fresh method params = good
   by-good Down method params = good

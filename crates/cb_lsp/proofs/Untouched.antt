@@ -6,18 +6,21 @@ use Rattle.json.specs.Json.{Json, null}
 use Rattle.cb_wire.specs.declared.reply.ErrorCode.TheVariants.{InvalidRequest}
 use Rattle.cb_wire.specs.declared.reply.ErrorCode.TheVariants.{ServerNotInitialized}
 use Rattle.cb_wire.specs.Trees.{error_reply, result_reply}
+use Rattle.cb_wire.specs.declared.units.Encoding.{Encoding}
 use Rattle.cb_desk.specs.declared.refusal.Refusal.{Refusal}
 use Rattle.cb_desk.specs.World.{World}
+use Rattle.cb_lsp.specs.Changes.{TextChange, text_by}
 use Rattle.cb_lsp.specs.declared.notice.Notice.TheVariants.{Open, Change, Save, Close, Files}
 use Rattle.cb_lsp.specs.declared.server.Stage.{Stage}
 use Rattle.cb_lsp.specs.declared.server.Stage.TheVariants.{Fresh, Running, Down}
 use Rattle.cb_lsp.specs.Documents.{Document, Kept, Told, Work, after_change, after_close, after_open}
-use Rattle.cb_lsp.specs.Documents.{changed_to, closed_to, document_of, first_refusal, if_open}
-use Rattle.cb_lsp.specs.Documents.{is_open, later_refusals, nothing, opened_if, present, saved_as}
-use Rattle.cb_lsp.specs.Documents.{taken, text, text_step}
+use Rattle.cb_lsp.specs.Documents.{changed_into, changed_to, closed_to, document_of}
+use Rattle.cb_lsp.specs.Documents.{first_refusal, if_open, is_open, later_refusals, nothing}
+use Rattle.cb_lsp.specs.Documents.{opened_if, present, saved_as, taken, text, text_of_document}
+use Rattle.cb_lsp.specs.Documents.{text_step}
 use Rattle.cb_lsp.specs.Messages.{Serving, asked_reply, does, initialized, opened_with}
 use Rattle.cb_lsp.specs.Messages.{replies, requested, running}
-use Rattle.cb_lsp.specs.Params.{document_text, last_text}
+use Rattle.cb_lsp.specs.Params.{changes_in, document_text}
 use Rattle.cb_lsp.specs.Questions.{asked_by}
 use Rattle.cb_lsp.specs.Sync.{RequestsChangeNothing, WhatIsToldChangedNothing}
 
@@ -53,19 +56,26 @@ module _ (w : Work) where
   changes d (Ok u) why e = cc
   changes d (Err reason) why e = refl
 
-  changes-to : (no_text : Bool) (d : Document) (last : Option (Option (List ℕ)))
-      → Untouched w (changed_to no_text w d last)
+  changes-into : (no_text : Bool) (d : Document) (o : Option (List ℕ))
+      → Untouched w (changed_into no_text w d o)
   unfolding Untouched
-  changes-to no_text d None = λ why e. refl
-  changes-to no_text d (Some None) = λ why e. refl
-  changes-to no_text d (Some (Some bytes)) =
+  changes-into no_text d None = λ why e. refl
+  changes-into no_text d (Some bytes) =
       changes d (taken no_text w.world (text_step w.world.files d.name bytes))
 
-  changes-if : (no_text : Bool) (last : Option (Option (List ℕ))) (o : Option Document)
-      → Untouched w (if_open (λ d. changed_to no_text w d last) w o)
+  changes-to : (e : Encoding) (no_text : Bool) (d : Document) (o : Option (List TextChange))
+      → Untouched w (changed_to e no_text w d o)
   unfolding Untouched
-  changes-if no_text last None = λ why e. refl
-  changes-if no_text last (Some d) = changes-to no_text d last
+  changes-to e no_text d None = λ why is. refl
+  changes-to e no_text d (Some cs) =
+      changes-into no_text d (text_by e (text_of_document w d) cs)
+
+  changes-if : (e : Encoding) (no_text : Bool) (cs : Option (List TextChange))
+      (o : Option Document)
+      → Untouched w (if_open (λ d. changed_to e no_text w d cs) w o)
+  unfolding Untouched
+  changes-if e no_text cs None = λ why is. refl
+  changes-if e no_text cs (Some d) = changes-to e no_text d cs
 
   saves-as : (d : Document) (b : Bool) → Untouched w (saved_as w d b)
   unfolding Untouched
@@ -97,15 +107,15 @@ module _ (w : Work) where
 
 pub what_is_told_changed_nothing : WhatIsToldChangedNothing
 unfolding Untouched
-what_is_told_changed_nothing Open refusals w params name =
+what_is_told_changed_nothing e Open refusals w params name =
     opens-with w refusals name (document_text params)
-what_is_told_changed_nothing Change refusals w params name =
-    changes-if w (first_refusal refusals) (last_text params) (document_of w.documents name)
-what_is_told_changed_nothing Save refusals w params name =
+what_is_told_changed_nothing e Change refusals w params name =
+    changes-if w e (first_refusal refusals) (changes_in params) (document_of w.documents name)
+what_is_told_changed_nothing e Save refusals w params name =
     saves-if w (document_of w.documents name)
-what_is_told_changed_nothing Close refusals w params name =
+what_is_told_changed_nothing e Close refusals w params name =
     closes-if w (first_refusal refusals) name (document_of w.documents name)
-what_is_told_changed_nothing Files refusals w params name = λ why e. refl
+what_is_told_changed_nothing e Files refusals w params name = λ why is. refl
 
 -- ---- requests
 

@@ -13,9 +13,9 @@ use Rattle.cb_desk.proofs.StepsValid.{step-bounds}
 use Rattle.cb_desk.specs.World.{WorldBounds, text_named}
 use Rattle.cb_desk.proofs.PlaceLemmas.{no-text}
 use Rattle.std.proofs.lemmas.Bool.{lt-ltb}
-use Rattle.cb_lsp.specs.Documents.{Document, Work, document_of, taken, text, text_step}
+use Rattle.cb_lsp.specs.Documents.{Document, Work, document_of, taken, text, text_step, was_lost}
 use Rattle.cb_lsp.specs.steps.Noted.{keeps_present}
-use Rattle.cb_lsp.specs.steps.Works.{Becomes, IsForgotten, Reloads, kept_before}
+use Rattle.cb_lsp.specs.steps.Works.{Becomes, IsForgotten, kept_before, text_at}
 
 -- ---- a change
 
@@ -141,17 +141,6 @@ uncopied-load w name bytes why r named u e =
           (is, refl),
     )
 
-pub uncopied-reload : (w : Work) (name bytes : List ℕ) (why : Refusal)
-    (r : Result (Unit {0}) Refusal) → is_file_name name ≡ true → IsUncopied w.world bytes why
-    → r ≡ Err why
-    → (m : Bool) × Reloads (taken m w.world (text_step w.world.files name bytes)) name w w r
-uncopied-reload w name bytes why r named u e =
-    let (m, is) = uncopied w.world name bytes why named u in (
-      m,
-      subst (Reloads (taken m w.world (text_step w.world.files name bytes)) name w w) (sym e)
-          (is, refl),
-    )
-
 -- ---- the text before
 
 no-file : (files : List File) (name : List ℕ) → None ≡ text_named files name
@@ -172,3 +161,11 @@ nothing-before w v name bytes same keeps none empty =
     ≡ kept_before x.world.files name (document_of x.documents name)) same
     (rw (keeps, empty)
     (ap (λ b. Some (text b)) (sym (no-text w.world.files name (no-file w.world.files name none)))))
+
+pub nothing-there : (w v : Work) (name bytes : List ℕ) → w ≡ v
+    → was_lost (document_of w.documents name) ≡ false → None ≡ text_named w.world.files name
+    → bytes ≡ [] → Some bytes ≡ text_at v.world.files name (document_of v.documents name)
+nothing-there w v name bytes same kept none empty =
+    subst (λ (x : Work). Some bytes ≡ text_at x.world.files name (document_of x.documents name))
+    same (rw (kept, empty)
+    (ap Some (sym (no-text w.world.files name (no-file w.world.files name none)))))

@@ -9,6 +9,8 @@ use Rattle.cb_desk.specs.declared.refusal.Refusal.TheVariants.{OutOfMemory}
 use Rattle.cb_desk.specs.Refusals.{text_of}
 use Rattle.cb_desk.specs.Step.{Step, load, reload, step, unload}
 use Rattle.cb_desk.specs.World.{File, World, has_file, text_of_file}
+use Rattle.cb_wire.specs.declared.units.Encoding.{Encoding}
+use Rattle.cb_lsp.specs.Changes.{TextChange, text_by}
 
 -- the text that a file has again when its document is closed: the one that it has then, another
 -- one, or the one that it had when the document was opened or saved
@@ -142,21 +144,35 @@ after_change w d (Ok next) = record {
 }
 after_change w d (Err why) = lost w d (text_of why)
 
-abbrev pub changed_to : Bool → Work → Document → Option (Option (List ℕ)) → Told
-changed_to no_text w d None = lost w d (codes "bad parameters")
-changed_to no_text w d (Some None) = record { work = w; told = None }
-changed_to no_text w d (Some (Some bytes)) =
+abbrev pub changed_into : Bool → Work → Document → Option (List ℕ) → Told
+changed_into no_text w d None = record { work = w; told = None }
+changed_into no_text w d (Some bytes) =
     after_change w d (taken no_text w.world (text_step w.world.files d.name bytes))
+
+-- the text of a document, unless it is lost
+abbrev pub text_unless : (is_lost : Bool) → List ℕ → Option (List ℕ)
+text_unless true bytes = None
+text_unless false bytes = Some bytes
+
+abbrev pub text_of_document : Work → Document → Option (List ℕ)
+text_of_document w d = text_unless d.lost (text_of_file w.world.files d.name)
+
+-- the text that changes lead to, if they do; without changes the document is lost
+abbrev pub changed_to : Encoding → Bool → Work → Document → Option (List TextChange) → Told
+changed_to e no_text w d None = lost w d (codes "bad parameters")
+changed_to e no_text w d (Some cs) =
+    changed_into no_text w d (text_by e (text_of_document w d) cs)
 
 -- nothing is done about a document that is not open
 abbrev pub if_open : (Document → Told) → Work → Option Document → Told
 if_open does w None = record { work = w; told = None }
 if_open does w (Some d) = does d
 
--- a document is changed to the last of some texts, where there is one
-abbrev pub changed : List Bool → Work → List ℕ → Option (Option (List ℕ)) → Told
-changed refusals w name last =
-    if_open (λ d. changed_to (first_refusal refusals) w d last) w (document_of w.documents name)
+-- a document is changed
+abbrev pub changed : Encoding → List Bool → Work → List ℕ → Option (List TextChange) → Told
+changed e refusals w name changes =
+    if_open (λ d. changed_to e (first_refusal refusals) w d changes) w
+    (document_of w.documents name)
 
 -- the present text of a document is kept, unless the document is lost
 abbrev pub saved_as : Work → Document → Bool → Told

@@ -1,5 +1,7 @@
 pub mod Answers
 pub mod Bodies
+pub mod ChangeExamples
+pub mod Changes
 pub mod Clients
 pub mod Documents
 pub mod Endings

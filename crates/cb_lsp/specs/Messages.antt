@@ -25,8 +25,8 @@ use Rattle.cb_lsp.specs.Answers.{answer_to}
 use Rattle.cb_lsp.specs.Clients.{Client}
 use Rattle.cb_lsp.specs.Documents.{Told, Work, changed, closed, first_refusal, later_refusals}
 use Rattle.cb_lsp.specs.Documents.{opened, removed, saved}
-use Rattle.cb_lsp.specs.Params.{document_text, is_deletion, items_in, last_text, member_of, root_in}
-use Rattle.cb_lsp.specs.Params.{takes_trees, takes_utf8, text_in, uri_in}
+use Rattle.cb_lsp.specs.Params.{changes_in, document_text, is_deletion, items_in, member_of}
+use Rattle.cb_lsp.specs.Params.{root_in, takes_trees, takes_utf8, text_in, uri_in}
 use Rattle.cb_lsp.specs.Questions.{Asked, asked_by}
 
 -- a message that was read
@@ -181,12 +181,12 @@ notice_of method =
     else None))))
 
 -- one about the document of a file
-abbrev pub told_of : Notice → List Bool → Work → Option Json → List ℕ → Told
-told_of Open refusals w params name = opened_with refusals w name (document_text params)
-told_of Change refusals w params name = changed refusals w name (last_text params)
-told_of Save refusals w params name = saved w name
-told_of Close refusals w params name = closed refusals w name
-told_of Files refusals w params name = record { work = w; told = None }
+abbrev pub told_of : Encoding → Notice → List Bool → Work → Option Json → List ℕ → Told
+told_of e Open refusals w params name = opened_with refusals w name (document_text params)
+told_of e Change refusals w params name = changed e refusals w name (changes_in params)
+told_of e Save refusals w params name = saved w name
+told_of e Close refusals w params name = closed refusals w name
+told_of e Files refusals w params name = record { work = w; told = None }
 
 abbrev pub is_opening : Notice → Bool
 is_opening Open = true
@@ -205,7 +205,8 @@ bad_name s notice path =
 abbrev pub noticed_at : Notice → List Bool → Serving → Option Json → List ℕ → Outcome
 noticed_at notice refusals s params path =
     let name = name_below s.client.root.path path in
-    if is_file_name name then moved s name (told_of notice refusals s.work params name)
+    if is_file_name name
+    then moved s name (told_of s.client.encoding notice refusals s.work params name)
     else bad_name s notice path
 
 abbrev pub noticed_on : Notice → List Bool → Serving → Option Json → Option (List ℕ) → Outcome

@@ -1,6 +1,9 @@
 -- What the values of the server stand for in the definitions.
 use Rattle.std.specs.Prelude.{Option, Result, Ok, Err}
 use Rattle.std.specs.Option.{option_map}
+use Rattle.cb_lsp.specs.declared.change.TextChange.{TextChange as CodeChange}
+use Rattle.cb_lsp.specs.declared.change.TextChange.TheVariants.{Part, Whole}
+use Rattle.cb_lsp.specs.Changes.{TextChange, part, whole}
 use Rattle.cb_lsp.specs.declared.documents.Kept.{Kept as CodeKept}
 use Rattle.cb_lsp.specs.declared.documents.Kept.TheVariants.{Nothing, Present, Text}
 use Rattle.cb_lsp.specs.Documents.{Kept, nothing, present, text}
@@ -24,6 +27,11 @@ asked_of (WorkspaceSymbols query) = workspace_symbols query.now
 abbrev pub asked_in : Result Question Unasked → Result Asked Unasked
 asked_in (Ok question) = Ok (asked_of question)
 asked_in (Err reason) = Err reason
+
+-- what a change does
+abbrev pub change_seen : CodeChange → TextChange
+change_seen (Whole new) = whole new.now
+change_seen (Part range new) = part range new.now
 
 -- the text that is kept
 abbrev pub kept_of : CodeKept → Kept

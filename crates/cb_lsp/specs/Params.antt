@@ -1,11 +1,14 @@
 -- The parameters of requests and notifications.
-use Rattle.std.specs.Prelude.{ℕ, Bool, false, ◌&&◌, ◌||◌, ◌==◌, ◌^◌, nat_lt, List, codes, length}
-use Rattle.std.specs.Prelude.{Option, None, Some, option_and_then, if◌then◌else◌}
+use Rattle.std.specs.Prelude.{ℕ, Bool, true, false, ◌&&◌, ◌||◌, ◌==◌, ◌^◌, nat_lt, List, [], ◌∷◌}
+use Rattle.std.specs.Prelude.{codes, length, Option, None, Some, option_and_then, if◌then◌else◌}
+use Rattle.std.specs.Option.{option_map}
 use Rattle.std.specs.Str.{all_ascii_digits, bytes_eq}
 use Rattle.std.specs.Str.Parse.{digits_value, without_leading_plus}
 use Rattle.json.specs.Find.{as_array, as_bool, as_number, as_str, at, get}
-use Rattle.json.specs.Json.{Json, Items, no_items, item}
+use Rattle.json.specs.Json.{Json, Items, no_items, item, null}
 use Rattle.cb_wire.specs.declared.position.Position.{Position}
+use Rattle.cb_wire.specs.declared.position.Range.{Range}
+use Rattle.cb_lsp.specs.Changes.{TextChange, or_else, part, whole}
 
 -- a member of a value, if both are there
 abbrev pub member_of : List ℕ → Option Json → Option Json
@@ -62,32 +65,76 @@ abbrev pub position_with : Option ℕ → Option ℕ → Option Position
 position_with (Some line) (Some character) = Some (record { line = line; character = character })
 position_with _ _ = None
 
+abbrev pub position_at : Option Json → Option Position
+position_at value =
+    position_with (number_in (member_of (codes "line") value))
+    (number_in (member_of (codes "character") value))
+
 -- `position`
 abbrev pub position_in : Option Json → Option Position
-position_in params =
-    position_with (number_in (member_of (codes "line") (member_of (codes "position") params)))
-    (number_in (member_of (codes "character") (member_of (codes "position") params)))
+position_in params = position_at (member_of (codes "position") params)
 
--- the text of a change that is a whole text
-abbrev pub whole_text_if : Option Json → Option Json → Option (List ℕ)
-whole_text_if (Some range) text = None
-whole_text_if None text = text_in text
+-- ---- of changes
 
-abbrev pub whole_text : Json → Option (List ℕ)
-whole_text change = whole_text_if (get (codes "range") change) (get (codes "text") change)
+-- a start and an end
+abbrev pub range_with : Option Position → Option Position → Option Range
+range_with (Some start) (Some end) = Some (record { start = start; end = end })
+range_with _ _ = None
 
--- the last of some changes, each of which is a whole text, or else the text before them; nothing
--- where one is no such change
-unfoldable pub last_of : Items → Option (List ℕ) → Option (Option (List ℕ))
-last_of no_items last = Some last
-last_of (item change more) last =
-    option_and_then (λ text. last_of more (Some text)) (whole_text change)
+abbrev pub range_at : Option Json → Option Range
+range_at value =
+    range_with (position_at (member_of (codes "start") value))
+    (position_at (member_of (codes "end") value))
 
--- `contentChanges`
-abbrev pub last_text : Option Json → Option (Option (List ℕ))
-last_text params =
-    option_and_then (λ changes. last_of changes None)
-    (items_in (member_of (codes "contentChanges") params))
+-- a value that is there and is not null
+abbrev pub is_null : Json → Bool
+is_null null = true
+is_null _ = false
+
+abbrev pub unless_null : Option Json → Option Json
+unless_null None = None
+unless_null (Some value) = if is_null value then None else Some value
+
+-- a change to a text, in a range or as a whole
+abbrev pub part_with : Option Range → List ℕ → Option TextChange
+part_with range new = option_map (λ r. part r new) range
+
+abbrev pub change_with : (range : Option Json) → List ℕ → Option TextChange
+change_with None new = Some (whole new)
+change_with (Some range) new = part_with (range_at (Some range)) new
+
+-- a change: its text, and its range, unless that is null
+abbrev pub change_of : Json → Option TextChange
+change_of change =
+    option_and_then (change_with (unless_null (get (codes "range") change)))
+    (text_in (get (codes "text") change))
+
+-- each of some values is a change
+abbrev pub is_change : Option TextChange → Bool
+is_change None = false
+is_change (Some change) = true
+
+unfoldable pub are_changes : Items → Bool
+are_changes no_items = true
+are_changes (item j more) = is_change (change_of j) && are_changes more
+
+-- the changes among some values
+abbrev pub with_change : Option TextChange → List TextChange → List TextChange
+with_change None cs = cs
+with_change (Some c) cs = c ∷ cs
+
+unfoldable pub changes_among : Items → List TextChange
+changes_among no_items = []
+changes_among (item j more) = with_change (change_of j) (changes_among more)
+
+-- `contentChanges`, where each is a change
+abbrev pub changes_if : Items → Option Items
+changes_if items = if are_changes items then Some items else None
+
+abbrev pub changes_in : Option Json → Option (List TextChange)
+changes_in params =
+    option_map changes_among
+    (option_and_then changes_if (items_in (member_of (codes "contentChanges") params)))
 
 -- ---- of the client
 
@@ -120,11 +167,6 @@ takes_trees params =
     is_true (member_of (codes "hierarchicalDocumentSymbolSupport")
     (member_of (codes "documentSymbol") (member_of (codes "textDocument")
     (member_of (codes "capabilities") params))))
-
--- a text, or else another
-abbrev pub or_else : Option (List ℕ) → Option (List ℕ) → Option (List ℕ)
-or_else None other = other
-or_else (Some text) other = Some text
 
 -- `workspaceFolders[0].uri`, or else `rootUri`
 abbrev pub root_in : Option Json → Option (List ℕ)

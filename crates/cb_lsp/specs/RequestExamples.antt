@@ -1,15 +1,17 @@
 -- What requests say, and what they mean, computed. The expected values are worked out by hand.
-use Rattle.std.specs.Prelude.{◌≡◌, ℕ, List, [], true, false, codes, refl}
+use Rattle.std.specs.Prelude.{◌≡◌, ℕ, List, [], ◌∷◌, true, false, codes, refl}
 use Rattle.std.specs.Prelude.{Option, Some, None, Ok, Err}
 use Rattle.json.specs.Json.{Json, boolean, number, string, array, object, Items, no_items, item}
-use Rattle.json.specs.Json.{no_members, member}
+use Rattle.json.specs.Json.{no_members, member, null}
 use Rattle.cb_scan.specs.lex.Lexeme.{is_identifier}
 use Rattle.cb_scan.specs.lex.Reserved.{is_reserved, reserved_words}
 use Rattle.cb_lsp.specs.declared.question.Unasked.TheVariants.{UnknownMethod, BadParameters}
 use Rattle.cb_lsp.specs.Headers.{folder_of, is_in_folder, without_dots}
 use Rattle.cb_lsp.specs.Likes.{holds_like}
-use Rattle.cb_lsp.specs.Params.{has_text, last_of, last_text, number_in, root_in, takes_trees}
-use Rattle.cb_lsp.specs.Params.{takes_utf8}
+use Rattle.cb_wire.specs.declared.position.Range.{Range}
+use Rattle.cb_lsp.specs.Changes.{part, whole}
+use Rattle.cb_lsp.specs.Params.{are_changes, changes_among, changes_in, has_text, number_in}
+use Rattle.cb_lsp.specs.Params.{root_in, takes_trees, takes_utf8}
 use Rattle.cb_lsp.specs.Questions.{asked_by, in_file, workspace_symbols}
 use Rattle.cb_lsp.specs.declared.question.FileQuestion.TheVariants.{Hover}
 use Rattle.cb_lsp.specs.Words.{word_at}
@@ -36,31 +38,60 @@ a_large_number = refl
 pub no_number : number_in (Some (string (codes "1"))) ≡ None
 no_number = refl
 
-abbrev whole : List ℕ → Json
-whole text = one (codes "text") (string text)
+abbrev anew : List ℕ → Json
+anew text = one (codes "text") (string text)
 
-abbrev part : Json
-part = object (member (codes "range") (object no_members)
-    (member (codes "text") (string (codes "b")) no_members))
+abbrev at : (line character : List ℕ) → Json
+at line character =
+    object (member (codes "line") (number line)
+    (member (codes "character") (number character) no_members))
+
+-- a part: from the start of the text up to a place of the first line
+abbrev up_to : (character : List ℕ) → (text : List ℕ) → Json
+up_to character text =
+    object (member (codes "range") (object (member (codes "start") (at (codes "0") (codes "0"))
+    (member (codes "end") (at (codes "0") character) no_members)))
+    (member (codes "text") (string text) no_members))
+
+abbrev with_range : Json → Json
+with_range range =
+    object (member (codes "range") range (member (codes "text") (string (codes "b")) no_members))
 
 abbrev changed : Items → Option Json
 changed changes = Some (one (codes "contentChanges") (array changes))
 
--- the last of two whole texts counts
-pub two_changes : last_text (changed (item (whole (codes "a")) (item (whole (codes "b")) no_items)))
-    ≡ Some (Some (codes "b"))
-unfolding last_of
+abbrev first_two : Range
+first_two = record {
+  start = record { line = 0; character = 0 };
+  end = record { line = 0; character = 2 };
+}
+
+-- a whole text, and a part behind it
+pub two_changes : changes_in (changed
+    (item (anew (codes "abc")) (item (up_to (codes "2") (codes "x")) no_items)))
+    ≡ Some (whole (codes "abc") ∷ part first_two (codes "x") ∷ [])
+unfolding are_changes changes_among
 two_changes = refl
 
--- no change leaves the text as it is
-pub no_changes : last_text (changed no_items) ≡ Some None
-unfolding last_of
+pub no_changes : changes_in (changed no_items) ≡ Some []
+unfolding are_changes changes_among
 no_changes = refl
 
--- a change of a part is refused, also behind a whole text
-pub a_part : last_text (changed (item (whole (codes "a")) (item part no_items))) ≡ None
-unfolding last_of
-a_part = refl
+-- a range that is null is none
+pub a_null_range : changes_in (changed (item (with_range null) no_items))
+    ≡ Some (whole (codes "b") ∷ [])
+unfolding are_changes changes_among
+a_null_range = refl
+
+-- where one is no change there is none
+pub a_wrong_range : changes_in (changed
+    (item (anew (codes "a")) (item (with_range (object no_members)) no_items))) ≡ None
+unfolding are_changes
+a_wrong_range = refl
+
+pub a_negative_place : changes_in (changed (item (up_to (codes "-1") (codes "x")) no_items)) ≡ None
+unfolding are_changes
+a_negative_place = refl
 
 abbrev folder : Json
 folder = one (codes "uri") (string (codes "file:///a"))

@@ -5,7 +5,10 @@ use Rattle.std.specs.Str.{bytes_eq}
 use Rattle.json.specs.Json.{Json}
 use Rattle.cb_tags.specs.Names.{is_file_name}
 use Rattle.cb_wire.specs.Uris.{Below, name_below, path_of}
+use Rattle.cb_wire.specs.declared.units.Encoding.{Encoding}
 use Rattle.cb_desk.specs.World.{World, text_of_file}
+use Rattle.cb_lsp.specs.Changes.{TextChange, text_with}
+use Rattle.cb_lsp.specs.Clients.{Client}
 use Rattle.cb_lsp.specs.declared.notice.Notice.{Notice}
 use Rattle.cb_lsp.specs.declared.notice.Notice.TheVariants.{Open, Change, Save, Close, Files}
 use Rattle.cb_lsp.specs.declared.server.Stage.{Stage}
@@ -13,7 +16,7 @@ use Rattle.cb_lsp.specs.declared.server.Stage.TheVariants.{Fresh, Running, Down}
 use Rattle.cb_lsp.specs.Documents.{Document, Work, document_of}
 use Rattle.cb_lsp.specs.Messages.{Message, Serving, does, fresh_server, notice_of, notification}
 use Rattle.cb_lsp.specs.Messages.{request, told_of}
-use Rattle.cb_lsp.specs.Params.{document_text, last_text, uri_in}
+use Rattle.cb_lsp.specs.Params.{changes_in, document_text, uri_in}
 
 -- the text that a client has of the document of a name, if that is open
 abbrev pub Sent : Type 0
@@ -41,36 +44,43 @@ abbrev pub text_or : (before : Option (List ℕ)) → Option (List ℕ) → Opti
 text_or before None = before
 text_or before (Some text) = Some text
 
-abbrev pub last_or : (before : Option (List ℕ)) → Option (Option (List ℕ)) → Option (List ℕ)
-last_or before None = before
-last_or before (Some last) = text_or before last
+-- the text that a client has after changes of its text: each was made in the text after those
+-- before it
+unfoldable pub text_through : Encoding → Option (List ℕ) → List TextChange → Option (List ℕ)
+text_through e text [] = text
+text_through e text (c ∷ cs) = text_through e (text_with e c text) cs
+
+abbrev pub text_changed : Encoding → Option (List ℕ) → Option (List TextChange) → Option (List ℕ)
+text_changed e before None = before
+text_changed e before (Some cs) = text_through e before cs
 
 -- the text that a client has of a document after its notification
-abbrev pub text_after : Notice → Option Json → Option (List ℕ) → Option (List ℕ)
-text_after Open params before = text_or before (document_text params)
-text_after Change params before = last_or before (last_text params)
-text_after Save params before = before
-text_after Close params before = None
-text_after Files params before = before
+abbrev pub text_after : Encoding → Notice → Option Json → Option (List ℕ) → Option (List ℕ)
+text_after e Open params before = text_or before (document_text params)
+text_after e Change params before = text_changed e before (changes_in params)
+text_after e Save params before = before
+text_after e Close params before = None
+text_after e Files params before = before
 
-abbrev pub sent_of : Sent → Notice → Option Json → (name : Option (List ℕ)) → Sent
-sent_of sent notice params None = sent
-sent_of sent notice params (Some name) =
-    with_text name (text_after notice params (sent name)) sent
+abbrev pub sent_of : Encoding → Sent → Notice → Option Json → (name : Option (List ℕ)) → Sent
+sent_of e sent notice params None = sent
+sent_of e sent notice params (Some name) =
+    with_text name (text_after e notice params (sent name)) sent
 
-abbrev pub sent_if : Sent → (root : List ℕ) → Option Notice → Option Json → Sent
-sent_if sent root None params = sent
-sent_if sent root (Some notice) params = sent_of sent notice params (name_of root (uri_in params))
+abbrev pub sent_if : Client → Sent → Option Notice → Option Json → Sent
+sent_if c sent None params = sent
+sent_if c sent (Some notice) params =
+    sent_of c.encoding sent notice params (name_of c.root.path (uri_in params))
 
-abbrev pub sent_at : Stage → Sent → (root : List ℕ) → (method : List ℕ) → Option Json → Sent
-sent_at Running sent root method params = sent_if sent root (notice_of method) params
-sent_at Fresh sent root method params = sent
-sent_at Down sent root method params = sent
+abbrev pub sent_at : Stage → Client → Sent → (method : List ℕ) → Option Json → Sent
+sent_at Running c sent method params = sent_if c sent (notice_of method) params
+sent_at Fresh c sent method params = sent
+sent_at Down c sent method params = sent
 
 -- what a client has after a message to a server, which takes notifications as long as it runs
 abbrev pub sent_after : Serving → Sent → Message → Sent
 sent_after s sent (notification method params) =
-    sent_at s.stage sent s.client.root.path method params
+    sent_at s.stage s.client sent method params
 sent_after s sent _ = sent
 
 -- each open document that is not lost has the text that the client has
@@ -97,10 +107,10 @@ DocumentsStayInSync = (w : World) (root : Below) (rooted : Bool) (version : List
 
 -- what is told of a document is told of a file that is as it was
 abbrev pub WhatIsToldChangedNothing : Type 0
-WhatIsToldChangedNothing = (notice : Notice) (refusals : List Bool) (w : Work)
+WhatIsToldChangedNothing = (e : Encoding) (notice : Notice) (refusals : List Bool) (w : Work)
     (params : Option Json) (name why : List ℕ)
-    → (told_of notice refusals w params name).told ≡ Some why
-    → (told_of notice refusals w params name).work.world ≡ w.world
+    → (told_of e notice refusals w params name).told ≡ Some why
+    → (told_of e notice refusals w params name).work.world ≡ w.world
 
 -- a request leaves the files and the documents as they are
 abbrev pub RequestsChangeNothing : Type 0

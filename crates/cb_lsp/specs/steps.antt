@@ -1,3 +1,4 @@
+pub mod Changed
 pub mod Columns
 pub mod Elements
 pub mod Located

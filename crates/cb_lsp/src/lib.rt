@@ -8,6 +8,7 @@
 
 mod answers;
 mod body;
+mod change;
 mod columns;
 mod documents;
 mod header;

@@ -2,30 +2,37 @@
 ghost use Rattle.std.specs.Prelude.{◌≡◌, MatchOption};
 ghost use Rattle.std.specs.Option.{option_map};
 ghost use Rattle.json.specs.Value.{items_view, value_view};
+ghost use Rattle.cb_lsp.specs.Models.{change_seen};
 ghost use Rattle.cb_lsp.specs.Params.{
+  are_changes,
+  change_of,
+  changes_among,
+  changes_in,
   document_text,
   first_of,
   has_text,
+  is_change,
   is_deletion,
   is_text,
   is_true,
   items_in,
-  last_of,
-  last_text,
   member_of,
   number_in,
+  position_at,
   position_in,
   query_in,
+  range_at,
   root_in,
   takes_trees,
   takes_utf8,
   text_in,
+  unless_null,
   uri_in,
-  whole_text,
 };
 ghost use Rattle.cb_lsp.specs.steps.Values.{seen};
 
-use cb_wire::Position;
+use crate::change::TextChange;
+use cb_wire::{Position, Range};
 use json::Value;
 
 /// A member of a value, if it has one.
@@ -102,14 +109,29 @@ pub(crate) fn query_of<'v, 'a>(params: Option<&'v Value<'a>>) -> Option<&'a str>
     text_in(member(params, "query"))
 }
 
-/// `position`: a line and a character, integers from 0 up.
+/// A position: a line and a character, integers from 0 up.
+fn position_at<'v, 'a>(value: Option<&'v Value<'a>>) -> Option<Position>
+    ensures { result ≡ position_at (seen value.entry) }
+{
+    let line = number_in(member(value, "line"))?;
+    let character = number_in(member(value, "character"))?;
+    Some(Position { line, character })
+}
+
+/// `position`
 pub(crate) fn position_of<'v, 'a>(params: Option<&'v Value<'a>>) -> Option<Position>
     ensures { result ≡ position_in (seen params.entry) }
 {
-    let position = member(params, "position");
-    let line = number_in(member(position, "line"))?;
-    let character = number_in(member(position, "character"))?;
-    Some(Position { line, character })
+    position_at(member(params, "position"))
+}
+
+/// A range: a start and an end.
+fn range_at<'v, 'a>(value: Option<&'v Value<'a>>) -> Option<Range>
+    ensures { result ≡ range_at (seen value.entry) }
+{
+    let start = position_at(member(value, "start"))?;
+    let end = position_at(member(value, "end"))?;
+    Some(Range { start, end })
 }
 
 /// Whether the client takes symbols of a document as a tree.
@@ -175,39 +197,59 @@ pub(crate) fn root_of<'v, 'a>(params: Option<&'v Value<'a>>) -> Option<&'a str>
     }
 }
 
-/// The text of a change, if it is a whole text.
-fn whole_text<'v, 'a>(change: &'v Value<'a>) -> Option<&'a str>
-    ensures { option_map (λ s. s.now) result ≡ whole_text (value_view change.now) }
+/// A value, unless it is null.
+fn unless_null<'v, 'a>(value: Option<&'v Value<'a>>) -> Option<&'v Value<'a>>
+    ensures { seen result ≡ unless_null (seen value.entry) }
 {
-    if change.get("range").is_some() {
-        return None;
+    match value {
+        Some(Value::Null) => None,
+        _ => value,
     }
-    text_in(change.get("text"))
 }
 
-/// The last text of some changes, each of which is a whole text: none where there is no change;
-/// `None` where one is no such change.
-fn last_of<'v, 'a>(changes: &'v [Value<'a>]) -> Option<Option<&'a str>>
-    ensures { option_map (option_map (λ s. s.now)) result
-        ≡ last_of (items_view changes.now) None }
+/// A change: its text, and its range, unless that is null.
+pub(crate) fn change_of<'v, 'a>(change: &'v Value<'a>) -> Option<TextChange<'a>>
+    ensures { option_map change_seen result ≡ change_of (value_view change.now) }
 {
-    let mut last = None;
-    'changes: for change in changes {
-        match whole_text(change) {
-            Some(text) => last = Some(text),
-            None => return None,
+    let text = text_in(change.get("text"))?;
+    match unless_null(change.get("range")) {
+        None => Some(TextChange::Whole(text)),
+        range => Some(TextChange::Part(range_at(range)?, text)),
+    }
+}
+
+/// Whether a value is a change.
+fn is_change(value: &Value<'_>) -> bool
+    ensures { result ≡ is_change (change_of (value_view value.now)) }
+{
+    match change_of(value) {
+        Some(_) => true,
+        None => false,
+    }
+}
+
+/// Whether each of these values is a change.
+fn are_changes(values: &[Value<'_>]) -> bool
+    ensures { result ≡ are_changes (items_view values.now) }
+{
+    'values: for value in values {
+        if !is_change(value) {
+            return false;
         }
     }
-    Some(last)
+    true
 }
 
-/// The last text of the changes of a document, as [`last_of`] tells it.
-pub(crate) fn last_text<'v, 'a>(params: Option<&'v Value<'a>>) -> Option<Option<&'a str>>
-    ensures { option_map (option_map (λ s. s.now)) result ≡ last_text (seen params.entry) }
+/// `contentChanges`, where each is a change.
+pub(crate) fn changes_in<'v, 'a>(params: Option<&'v Value<'a>>) -> Option<&'v [Value<'a>]>
+    ensures { option_map (λ values. changes_among (items_view values.now)) result
+        ≡ changes_in (seen params.entry) }
 {
-    match items_in(member(params, "contentChanges")) {
-        Some(changes) => last_of(changes),
-        None => None,
+    let changes = items_in(member(params, "contentChanges"))?;
+    if are_changes(changes) {
+        Some(changes)
+    } else {
+        None
     }
 }
 

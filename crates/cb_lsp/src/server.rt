@@ -372,7 +372,9 @@ impl Server {
     {
         let name = self.root.name(path);
         if is_file_name(name) {
-            let told = self.work.take_notice(alloc, notice, params, name);
+            let told = self
+                .work
+                .take_notice(alloc, self.encoding, notice, params, name);
             return put_told(out, name, told);
         }
         if opens_as_c(notice, path) {

@@ -11,14 +11,17 @@ ghost use Rattle.std.specs.Prelude.{
   ◌⊎◌,
   IfErr,
   IfOk,
+  Some,
 };
 ghost use Rattle.std.specs.Option.{option_copied, option_map};
+ghost use Rattle.json.specs.Value.{items_view};
 ghost use Rattle.cb_tags.specs.Names.{is_file_name};
 ghost use Rattle.cb_desk.specs.Models.{step_of};
 ghost use Rattle.cb_lsp.specs.Documents.{
   changed,
   closed,
   document_of,
+  is_open,
   opened,
   removed,
   saved,
@@ -29,14 +32,23 @@ ghost use Rattle.cb_lsp.specs.Documents.{
 };
 ghost use Rattle.cb_lsp.specs.Messages.{told_of};
 ghost use Rattle.cb_lsp.specs.Models.{kept_in};
+ghost use Rattle.cb_lsp.specs.Params.{changes_among};
 ghost use Rattle.cb_lsp.specs.steps.Noted.{with_noted};
 ghost use Rattle.cb_lsp.specs.steps.Values.{seen};
-ghost use Rattle.cb_lsp.specs.steps.Works.{Becomes, Reloads, kept_before};
+ghost use Rattle.cb_lsp.specs.steps.Works.{
+  Becomes,
+  Reloads,
+  changed_named,
+  kept_before,
+  text_at,
+};
 
+use crate::change::text_by;
 use crate::documents::{Documents, Kept, copy_of};
 use crate::notice::Notice;
 use crate::params;
 use cb_desk::{Change, Desk, Field, Refusal};
+use cb_wire::Encoding;
 use json::Value;
 use std::alloc::{AllocError, Global};
 use std::marker::Model;
@@ -190,39 +202,92 @@ impl Workspace {
     }
 
     /// Gives the file of an open document another text.
-    fn reload(&mut self, alloc: Global, name: &[u8], text: &[u8]) -> Result<(), Refusal>
+    fn reload(&mut self, alloc: Global, name: &[u8], text: Vec<u8>) -> Result<(), Refusal>
         requires { is_file_name name.now ≡ true }
         ensures { (no_text : Bool) × Reloads (taken no_text self.old.world
-            (text_step self.old.world.files name.now text.now)) name.now self.old self.new result }
+            (text_step self.old.world.files name.now text.items)) name.now self.old self.new
+            result }
     {
-        let text = self.copy(alloc, text)?;
         let kept = self.before(alloc, name)?;
         self.take(alloc, name, text)?;
         self.documents.note(name, kept, false);
         Ok(())
     }
 
-    /// Changes a document to the last of some texts; what the client is told.
-    pub(crate) fn change(
+    /// The text of the file of a document, unless the document is lost.
+    fn text_before(&self, name: &[u8]) -> Option<&[u8]>
+        ensures { option_map (λ text. text.now) result
+            ≡ text_at self.now.world.files name.now (document_of self.now.documents name.now) }
+    {
+        if self.documents.is_lost(name) {
+            return None;
+        }
+        match self.desk.source(name) {
+            Some(source) => Some(source.bytes()),
+            None => Some(b""),
+        }
+    }
+
+    /// Gives the file of an open document another text, if there is one; what the client is told.
+    fn change_to(
         &mut self,
         alloc: Global,
         name: &[u8],
-        last: Option<Option<&str>>,
+        text: Option<Vec<u8>>,
+    ) -> Option<&'static str>
+        requires named { is_file_name name.now ≡ true }
+        requires open { is_open self.now.documents name.now ≡ true }
+        ensures { (no_text : Bool) × (record { work = self.new; told = option_copied result }
+            ≡ changed_named no_text self.old name.now (option_map (λ text. text.items) text)) }
+    {
+        match text {
+            None => None,
+            Some(text) => match self.reload(alloc, name, text) {
+                Ok(()) => None,
+                Err(refusal) => self.lose(name, refusal.text()),
+            },
+        }
+    }
+
+    /// Makes changes of an open document; what the client is told.
+    fn change_by(
+        &mut self,
+        alloc: Global,
+        encoding: Encoding,
+        name: &[u8],
+        changes: &[Value<'_>],
+    ) -> Option<&'static str>
+        requires named { is_file_name name.now ≡ true }
+        requires open { is_open self.now.documents name.now ≡ true }
+        ensures { (refusals : List Bool) × (record { work = self.new; told = option_copied result }
+            ≡ changed encoding refusals self.old name.now
+            (Some (changes_among (items_view changes.now)))) }
+    {
+        match text_by(alloc, encoding, self.text_before(name), changes) {
+            Ok(text) => self.change_to(alloc, name, text),
+            Err(_) => self.lose(name, Refusal::OutOfMemory.text()),
+        }
+    }
+
+    /// Changes a document; what the client is told.
+    pub(crate) fn change(
+        &mut self,
+        alloc: Global,
+        encoding: Encoding,
+        name: &[u8],
+        changes: Option<&[Value<'_>]>,
     ) -> Option<&'static str>
         requires { is_file_name name.now ≡ true }
         ensures { (refusals : List Bool) × (record { work = self.new; told = option_copied result }
-            ≡ changed refusals self.old name.now (option_map option_copied last.entry)) }
+            ≡ changed encoding refusals self.old name.now
+            (option_map (λ values. changes_among (items_view values.now)) changes.entry)) }
     {
         if !self.documents.is_open(name) {
             return None;
         }
-        match last {
+        match changes {
             None => self.lose(name, "bad parameters"),
-            Some(None) => None,
-            Some(Some(text)) => match self.reload(alloc, name, text.as_bytes()) {
-                Ok(()) => None,
-                Err(refusal) => self.lose(name, refusal.text()),
-            },
+            Some(changes) => self.change_by(alloc, encoding, name, changes),
         }
     }
 
@@ -265,20 +330,21 @@ impl Workspace {
     pub(crate) fn take_notice(
         &mut self,
         alloc: Global,
+        encoding: Encoding,
         notice: Notice,
         params: Option<&Value<'_>>,
         name: &[u8],
     ) -> Option<&'static str>
         requires { is_file_name name.now ≡ true }
         ensures { (refusals : List Bool) × (record { work = self.new; told = option_copied result }
-            ≡ told_of notice refusals self.old (seen params.entry) name.now) }
+            ≡ told_of encoding notice refusals self.old (seen params.entry) name.now) }
     {
         match notice {
             Notice::Open => match params::text_of(params) {
                 Some(text) => self.open(alloc, name, text.as_bytes()),
                 None => None,
             },
-            Notice::Change => self.change(alloc, name, params::last_text(params)),
+            Notice::Change => self.change(alloc, encoding, name, params::changes_in(params)),
             Notice::Save => {
                 self.save(name);
                 None

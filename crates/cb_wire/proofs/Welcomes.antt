@@ -22,7 +22,7 @@ pub welcome-text : (id : Id) (e : Encoding) (version : List ℕ)
     ≡ codes "{\"jsonrpc\":\"2.0\",\"id\":" ++ (id_text id
     ++ (codes ",\"result\":{\"capabilities\":{\"positionEncoding\":\""
     ++ (escape (encoding_name e)
-    ++ (codes "\",\"textDocumentSync\":{\"openClose\":true,\"change\":1,\"save\":true},"
+    ++ (codes "\",\"textDocumentSync\":{\"openClose\":true,\"change\":2,\"save\":true},"
     ++ (codes "\"hoverProvider\":true,\"definitionProvider\":true,"
     ++ (codes "\"documentHighlightProvider\":true,"
     ++ (codes "\"documentSymbolProvider\":true,\"workspaceSymbolProvider\":true},"

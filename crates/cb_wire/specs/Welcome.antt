@@ -9,10 +9,10 @@ abbrev pub encoding_name : Encoding → List ℕ
 encoding_name Utf8 = codes "utf-8"
 encoding_name Utf16 = codes "utf-16"
 
--- documents are opened and closed, changed as whole texts (1), and saved
+-- documents are opened and closed, changed as whole texts or in parts (2), and saved
 abbrev pub sync : Json
 sync =
-    object (member (codes "openClose") (boolean true) (member (codes "change") (number (codes "1"))
+    object (member (codes "openClose") (boolean true) (member (codes "change") (number (codes "2"))
     (member (codes "save") (boolean true) no_members)))
 
 -- what the server does

@@ -38,7 +38,7 @@ pub fn put_welcome<'a, W: Write>(
             Part::Id(id),
             Part::Raw(b",\"result\":{\"capabilities\":{\"positionEncoding\":\""),
             Part::Escaped(encoding_name(encoding)),
-            Part::Raw(b"\",\"textDocumentSync\":{\"openClose\":true,\"change\":1,\"save\":true},"),
+            Part::Raw(b"\",\"textDocumentSync\":{\"openClose\":true,\"change\":2,\"save\":true},"),
             Part::Raw(b"\"hoverProvider\":true,\"definitionProvider\":true,"),
             Part::Raw(b"\"documentHighlightProvider\":true,"),
             Part::Raw(b"\"documentSymbolProvider\":true,\"workspaceSymbolProvider\":true},"),

@@ -1,10 +1,11 @@
 -- What the steps of a message leave of the files and the documents.
-use Rattle.std.specs.Prelude.{◌≡◌, ◌≤◌, ℕ, false, List, [], Option, None, Some}
+use Rattle.std.specs.Prelude.{◌≡◌, ◌≤◌, ℕ, Bool, false, List, [], Option, None, Some}
 use Rattle.std.specs.Prelude.{Result, Ok, Err, if◌then◌else◌}
 use Rattle.cb_desk.specs.declared.refusal.Refusal.{Refusal}
 use Rattle.cb_desk.specs.Timeline.{Timeline}
 use Rattle.cb_desk.specs.World.{File, World, text_of_file}
-use Rattle.cb_lsp.specs.Documents.{Document, Kept, Work, document_of, text}
+use Rattle.cb_lsp.specs.Documents.{Document, Kept, Told, Work, changed_into, document_of, if_open}
+use Rattle.cb_lsp.specs.Documents.{text, text_unless, was_lost}
 use Rattle.cb_lsp.specs.steps.Noted.{keeps_present, with_noted}
 
 -- no past and no future, and room for one change
@@ -23,6 +24,10 @@ abbrev pub kept_before : List File → List ℕ → Option Document → Option K
 kept_before files name d =
     if keeps_present d then Some (text (text_of_file files name)) else None
 
+-- the text of the file of a document, unless it is lost
+abbrev pub text_at : List File → List ℕ → Option Document → Option (List ℕ)
+text_at files name d = text_unless (was_lost d) (text_of_file files name)
+
 -- the document keeps the text before besides
 abbrev pub Reloads : Result World Refusal → List ℕ → Work → Work → Result (Unit {0}) Refusal
     → Type 0
@@ -30,3 +35,8 @@ Reloads meant name old new (Ok _) = (meant ≡ Ok new.world) × (new.documents
     ≡ with_noted (kept_before old.world.files name (document_of old.documents name)) false name
     old.documents)
 Reloads meant name old new (Err why) = (meant ≡ Err why) × (new ≡ old)
+
+-- the document of a name is given another text, if there is one
+abbrev pub changed_named : Bool → Work → (name : List ℕ) → Option (List ℕ) → Told
+changed_named no_text w name bytes =
+    if_open (λ d. changed_into no_text w d bytes) w (document_of w.documents name)

@@ -54,7 +54,7 @@ fn a_client_is_welcomed(rt: HostRuntime) {
         written.as_slice(),
         b"Content-Length: 332\r\n\r\n{\"jsonrpc\":\"2.0\",\"id\":0,\"result\":\
           {\"capabilities\":{\"positionEncoding\":\"utf-16\",\
-          \"textDocumentSync\":{\"openClose\":true,\"change\":1,\"save\":true},\
+          \"textDocumentSync\":{\"openClose\":true,\"change\":2,\"save\":true},\
           \"hoverProvider\":true,\"definitionProvider\":true,\
           \"documentHighlightProvider\":true,\
           \"documentSymbolProvider\":true,\"workspaceSymbolProvider\":true},\

@@ -11,7 +11,7 @@ returns g c =
     subst (λ t. Puts c.args.out.now c.put_message.new.out c.put_message.result (frame t))
     (ap (λ name. codes "{\"jsonrpc\":\"2.0\",\"id\":" ++ (id_text c.args.id
     ++ (codes ",\"result\":{\"capabilities\":{\"positionEncoding\":\"" ++ (escape name
-    ++ (codes "\",\"textDocumentSync\":{\"openClose\":true,\"change\":1,\"save\":true},"
+    ++ (codes "\",\"textDocumentSync\":{\"openClose\":true,\"change\":2,\"save\":true},"
     ++ (codes "\"hoverProvider\":true,\"definitionProvider\":true,"
     ++ (codes "\"documentHighlightProvider\":true,"
     ++ (codes "\"documentSymbolProvider\":true,\"workspaceSymbolProvider\":true},"
