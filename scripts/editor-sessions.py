@@ -40,8 +40,9 @@ VERSION = re.findall(r"^## (\S+)", NOTES, re.MULTILINE)[0]
 WELCOME = (
     '{"capabilities":{"positionEncoding":"%s",'
     '"textDocumentSync":{"openClose":true,"change":2,"save":true},"hoverProvider":true,'
-    '"definitionProvider":true,"documentHighlightProvider":true,'
-    '"documentSymbolProvider":true,"workspaceSymbolProvider":true},'
+    '"definitionProvider":true,"referencesProvider":true,'
+    '"documentHighlightProvider":true,"documentSymbolProvider":true,'
+    '"workspaceSymbolProvider":true},'
     '"serverInfo":{"name":"cbrowse","version":"%s"}}'
 )
 CAPABILITIES = {
@@ -164,12 +165,18 @@ def document(method: str, name: str, **more) -> bytes:
     return message(method=f"textDocument/{method}", params=params)
 
 
-def asked(number: str, method: str, name: str, *place: str) -> bytes:
+def asked(number: str, method: str, name: str, *place: str, **more: dict) -> bytes:
     """A request about a document, at a line and a column where these are given."""
-    params: dict = {"textDocument": {"uri": f"file:///w/{name}"}}
+    params: dict = {"textDocument": {"uri": f"file:///w/{name}"}, **more}
     if place:
         params["position"] = {"line": int(place[0]), "character": int(place[1])}
     return message(id=int(number), method=f"textDocument/{method}", params=params)
+
+
+def uses_asked(number: str, declarations: str, *place: str) -> bytes:
+    """A request for the uses of a name, `with` the names of definitions or `without`."""
+    context = {"includeDeclaration": declarations == "with"}
+    return asked(number, "references", *place, context=context)
 
 
 def change(text: str) -> dict:
@@ -214,6 +221,7 @@ def sent_by(word: str, rest: str) -> Optional[bytes]:
             params={"changes": [{"uri": f"file:///w/{it}", "type": 3} for it in rest.split()]},
         ),
         "ask": lambda: asked(*rest.split()),
+        "uses": lambda: uses_asked(*rest.split()),
         "find": lambda: message(id=int(first), method="workspace/symbol", params={"query": after}),
         "shutdown": lambda: message(id=int(first), method="shutdown"),
         "exit": lambda: message(method="exit"),

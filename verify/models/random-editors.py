@@ -281,6 +281,14 @@ class Editor:
         params = {"textDocument": {"uri": uri}, "position": self.position(uri)}
         return self.request(method, params)
 
+    def references(self) -> dict:
+        uri = self.uri()
+        params = {"textDocument": {"uri": uri}, "position": self.position(uri)}
+        wanted = self.one(True, False) if self.chance(0.9) else self.one(*WRONG)
+        if self.chance(0.95):
+            params["context"] = {"includeDeclaration": wanted}
+        return self.request("textDocument/references", params)
+
     def symbols(self) -> dict:
         return self.request("textDocument/documentSymbol", {"textDocument": {"uri": self.uri()}})
 
@@ -295,7 +303,7 @@ class Editor:
     def wrong(self) -> dict:
         """A message of which one member, at any depth, has another value or is missing."""
         documents = self.open, self.change, self.save, self.close
-        made = self.one(*documents, self.at_place, self.symbols, self.initialize)()
+        made = self.one(*documents, self.at_place, self.references, self.symbols, self.initialize)()
         inside, name = made, self.one("params", "params", "params", "id", "method")
         while name in inside:
             value = inside[name]
@@ -323,6 +331,7 @@ class Editor:
             self.close: 2 if self.server.documents else 0.3,
             self.gone: 1,
             self.at_place: 14,
+            self.references: 6,
             self.symbols: 5,
             self.all_symbols: 4,
             self.other: 1,

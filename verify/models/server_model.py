@@ -24,8 +24,9 @@ MOST_SYMBOLS, MOST_HOVERED = 1_000, 8
 WELCOME = (
     b'{"capabilities":{"positionEncoding":"%s",'
     b'"textDocumentSync":{"openClose":true,"change":2,"save":true},"hoverProvider":true,'
-    b'"definitionProvider":true,"documentHighlightProvider":true,'
-    b'"documentSymbolProvider":true,"workspaceSymbolProvider":true},'
+    b'"definitionProvider":true,"referencesProvider":true,'
+    b'"documentHighlightProvider":true,"documentSymbolProvider":true,'
+    b'"workspaceSymbolProvider":true},'
     b'"serverInfo":{"name":"cbrowse","version":"0.1.0"}}'
 )
 # by the letters of definitions: functions, macros, typedefs, structures, unions, enumerations;
@@ -485,6 +486,7 @@ class Server:
             "shutdown": self.shutdown,
             "textDocument/definition": self.definition,
             "textDocument/hover": self.hover,
+            "textDocument/references": self.references,
             "textDocument/documentHighlight": self.highlights,
             "textDocument/documentSymbol": self.document_symbol,
             "workspace/symbol": self.workspace_symbol,
@@ -608,21 +610,29 @@ class Server:
             for one in self.facts(text).definitions
         ]
 
-    def meant(self, file, name):
-        """The definitions that a name means in a file."""
+    def named(self, name):
+        """The definitions of a name, and the files that have a private one."""
         named = [it for it in self.places() if it.definition.name == name]
         private = {
             it.file
             for it in named
             if it.definition.local and it.definition.kind == b"f" and it.file.endswith(b".c")
         }
+        return named, private
+
+    def meant(self, file, name):
+        """The definitions that a name means in a file."""
+        named, private = self.named(name)
         if file in private:
             return [it for it in named if it.file == file]
         return [it for it in named if it.file not in private] or named
 
+    def span_of(self, file, place, name):
+        """The range of a name that begins at a place of a file."""
+        return range_form(self.world.files[file], place, place + len(name), self.is_utf16)
+
     def range_of(self, place):
-        text, (_, one) = self.world.files[place.file], place
-        return range_form(text, one.place, one.place + len(one.name), self.is_utf16)
+        return self.span_of(place.file, place.definition.place, place.definition.name)
 
     def line_of(self, place):
         text = self.world.files[place.file]
@@ -690,6 +700,26 @@ class Server:
         contents = b'{"kind":"plaintext","value":%s}' % quoted(b"\n\n".join(rows))
         span = range_form(text, *word, self.is_utf16)
         return b'{"contents":%s,"range":%s}' % (contents, span)
+
+    def references(self, params):
+        is_wanted = member(params, "context", "includeDeclaration")
+        if not isinstance(is_wanted, bool):
+            raise BAD_PARAMETERS
+        file, text, place = self.asked(params)
+        if file is None:
+            return b"null"
+        word = word_at(text, place)
+        name = text[word[0] : word[1]] if word else None
+        named, private = self.named(name)
+        declared = set() if is_wanted else {(it.file, it.definition.place) for it in named}
+        files = [file] if file in private else sorted({*self.world.files} - private)
+        places = [
+            (it, use.place)
+            for it in files
+            for use in self.facts(self.world.files[it]).uses
+            if use.name == name and (it, use.place) not in declared
+        ]
+        return listed(self.location(it, self.span_of(it, place, name)) for it, place in places)
 
     def highlights(self, params):
         file, text, place = self.asked(params)

@@ -5,6 +5,7 @@ pub mod Closed
 pub mod DocumentPlaces
 pub mod Events
 pub mod FileSymbols
+pub mod FromPlaces
 pub mod Headers
 pub mod HoverTexts
 pub mod Items
@@ -30,7 +31,9 @@ pub mod Ranged
 pub mod Reaches
 pub mod Requests
 pub mod Synced
-pub mod TagsByFile
+pub mod TagsByPlace
 pub mod Turned
+pub mod Undeclared
 pub mod Untouched
+pub mod UsesReached
 pub mod WorkSteps

@@ -46,7 +46,7 @@ tied Equal p e a b = refl
 tied Greater p e a b = absurd (true≢false a)
 
 -- a name behind another one is none before that
-apart : (x y z : List ℕ) → IsUpTo x y → IsUpTo y z → bytes_eq x y ≡ false → bytes_eq x z ≡ false
+pub apart : (x y z : List ℕ) → IsUpTo x y → IsUpTo y z → bytes_eq x y ≡ false → bytes_eq x z ≡ false
 apart x y z xy yz other =
     (elim (bytes_eq x z) as (λ b. bytes_eq x z ≡ b → b ≡ false) [
       | true ↦ λ e.
@@ -69,7 +69,7 @@ none file t (u ∷ us) low other all =
     not-here (is_private u) (bytes_eq u.file file) (has_private file us) away
     ∙ none file t us low other all.1
 
-begins : (file : List ℕ) (ts : List Tag) → AllByRecursion (λ (u : Tag). IsUpTo file u.file) ts
+pub begins : (file : List ℕ) (ts : List Tag) → AllByRecursion (λ (u : Tag). IsUpTo file u.file) ts
     → AreByFile ts → begins_private file ts ≡ has_private file ts
 unfolding begins_private AreOrdered
 begins file [] low order = refl
@@ -149,7 +149,7 @@ all-free : (ts : List Tag) → AllByRecursion (λ (_ : Tag). Unit {0}) ts
 all-free [] = tt
 all-free (t ∷ ts) = (tt, all-free ts)
 
-kept : (t : Tag) (k : Bool) (ys : List Tag)
+pub kept : {X : Type 0} (t : X) (k : Bool) (ys : List X)
     → (if k then ys else t ∷ ys) ≡ cond (not k) (t ∷ ys) ys
 kept t true ys = refl
 kept t false ys = refl

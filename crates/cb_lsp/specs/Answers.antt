@@ -1,9 +1,9 @@
 -- The answers to questions, as values of JSON.
-use Rattle.std.specs.Prelude.{ℕ, List, [], ◌∷◌, map, Option, None, Some, take, option_map}
+use Rattle.std.specs.Prelude.{ℕ, Bool, List, [], ◌∷◌, map, Option, None, Some, take, option_map}
 use Rattle.std.specs.Prelude.{if◌then◌else◌}
 use Rattle.json.specs.Json.{Json, array, null}
 use Rattle.cb_desk.specs.World.{World, has_file, text_of_file}
-use Rattle.cb_index.specs.Rows.{tags_named}
+use Rattle.cb_index.specs.Rows.{Fact, tags_named, uses_of}
 use Rattle.cb_scan.specs.declared.facts.Use.{Use}
 use Rattle.cb_scan.specs.declared.lex.piece.Span.{Span}
 use Rattle.cb_scan.specs.lex.Tokens.{bytes_of}
@@ -16,16 +16,19 @@ use Rattle.cb_wire.specs.Values.{items_of}
 use Rattle.cb_wire.specs.declared.list.TheConstants.{MOST_ELEMENTS}
 use Rattle.cb_lsp.specs.Clients.{Client}
 use Rattle.cb_lsp.specs.Headers.{header_at, header_files}
-use Rattle.cb_lsp.specs.Highlights.{highlight, uses_of}
+use Rattle.cb_lsp.specs.Highlights as marked
+use Rattle.cb_lsp.specs.Highlights.{highlight}
 use Rattle.cb_lsp.specs.Hovers.{hover_of, hover_texts}
 use Rattle.cb_lsp.specs.Meaning.{meaning}
 use Rattle.cb_lsp.specs.Places.{range_of}
 use Rattle.cb_lsp.specs.Questions.{Asked, in_file, workspace_symbols}
 use Rattle.cb_lsp.specs.declared.question.FileQuestion.{FileQuestion}
 use Rattle.cb_lsp.specs.declared.question.FileQuestion.TheVariants.{Symbols, Definition, Hover}
-use Rattle.cb_lsp.specs.declared.question.FileQuestion.TheVariants.{Highlights}
+use Rattle.cb_lsp.specs.declared.question.FileQuestion.TheVariants.{Highlights, References}
+use Rattle.cb_lsp.specs.References.{references}
 use Rattle.cb_lsp.specs.Searches.{found_by}
-use Rattle.cb_lsp.specs.Symbols.{file_place, file_symbol, place_of, session_symbol}
+use Rattle.cb_lsp.specs.Symbols.{file_place, file_symbol, place_of, place_of_use}
+use Rattle.cb_lsp.specs.Symbols.{session_symbol}
 use Rattle.cb_lsp.specs.Words.{word_at}
 
 -- a list: the first 2^48 elements, which no memory holds
@@ -63,7 +66,20 @@ hover_at c w name text (Some word) = hover_over c text word (word_meaning w name
 abbrev pub highlights_of : Encoding → (text : List ℕ) → (uses : List Use) → Option Span → Json
 highlights_of e text uses None = list_of []
 highlights_of e text uses (Some word) =
-    list_of (map (highlight e text) (uses_of text (bytes_of text word) uses))
+    list_of (map (highlight e text) (marked.uses_of text (bytes_of text word) uses))
+
+-- the uses of a word of a file in all files of its reach
+abbrev pub word_references : World → (name text : List ℕ) → Span → (declarations : Bool) → List Fact
+word_references w name text word declarations =
+    references (tags_named w.profile (bytes_of text word) w.files) name declarations
+    (uses_of w.profile (bytes_of text word) w.files)
+
+-- where they are
+abbrev pub references_of_word : Client → World → (name text : List ℕ) → (declarations : Bool)
+    → Option Span → Json
+references_of_word c w name text declarations None = list_of []
+references_of_word c w name text declarations (Some word) =
+    list_of (map (place_of_use c w.files) (word_references w name text word declarations))
 
 -- ---- of a file
 
@@ -79,6 +95,8 @@ answer_in c w name text (Hover p) =
 answer_in c w name text (Highlights p) =
     highlights_of c.encoding text (facts_in w.profile text).uses
     (word_at text (place c.encoding text p))
+answer_in c w name text (References p declarations) =
+    references_of_word c w name text declarations (word_at text (place c.encoding text p))
 
 -- the same about a file of this name, if there is one
 abbrev pub answer_named : Client → World → FileQuestion → Option (List ℕ) → Json

@@ -18,6 +18,7 @@ pub mod PlaceExamples
 pub mod Places
 pub mod Questions
 pub mod Ranges
+pub mod References
 pub mod RequestExamples
 pub mod Runs
 pub mod Searches

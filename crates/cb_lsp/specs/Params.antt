@@ -39,13 +39,17 @@ items_in value = option_and_then as_array value
 abbrev pub first_of : Option Json → Option Json
 first_of value = option_and_then (at 0) value
 
+-- the truth value of a value, if it is one
+abbrev pub bool_in : Option Json → Option Bool
+bool_in value = option_and_then as_bool value
+
 -- a value is `true`
 abbrev pub is_yes : Option Bool → Bool
 is_yes None = false
 is_yes (Some b) = b
 
 abbrev pub is_true : Option Json → Bool
-is_true value = is_yes (option_and_then as_bool value)
+is_true value = is_yes (bool_in value)
 
 -- ---- of documents
 
@@ -73,6 +77,11 @@ position_at value =
 -- `position`
 abbrev pub position_in : Option Json → Option Position
 position_in params = position_at (member_of (codes "position") params)
+
+-- `context.includeDeclaration`
+abbrev pub declarations_in : Option Json → Option Bool
+declarations_in params =
+    bool_in (member_of (codes "includeDeclaration") (member_of (codes "context") params))
 
 -- ---- of changes
 

@@ -2,6 +2,7 @@
 use Rattle.std.specs.Prelude.{ℕ, ◌+◌, Bool, true, false, List, length}
 use Rattle.json.specs.Json.{Json}
 use Rattle.cb_desk.specs.World.{File, text_of_file}
+use Rattle.cb_index.specs.Rows.{Fact}
 use Rattle.cb_scan.specs.declared.facts.Def.{Def}
 use Rattle.cb_scan.specs.declared.facts.Kind.{Kind}
 use Rattle.cb_scan.specs.declared.facts.Kind.TheVariants as kind
@@ -31,11 +32,19 @@ kind_number kind.Prototype = 12
 abbrev pub file_place : Client → List ℕ → Json
 file_place c name = location_of c.root name start_of_file
 
+-- where a name is that begins at a place of a file
+abbrev pub name_place : Client → List File → (file name : List ℕ) → (place : ℕ) → Json
+name_place c files file name place =
+    location_of c.root file
+    (range_of c.encoding (text_of_file files file) place (place + length name))
+
 -- where the name of a definition is
 abbrev pub place_of : Client → List File → Tag → Json
-place_of c files t =
-    location_of c.root t.file
-    (range_of c.encoding (text_of_file files t.file) t.place (t.place + length t.name))
+place_of c files t = name_place c files t.file t.name t.place
+
+-- where the name of a use is
+abbrev pub place_of_use : Client → List File → Fact → Json
+place_of_use c files u = name_place c files u.file u.name u.place
 
 -- a definition of the session
 abbrev pub session_symbol : Client → List File → Tag → Json

@@ -4,6 +4,7 @@ pub mod Elements
 pub mod Located
 pub mod Meanings
 pub mod Noted
+pub mod References
 pub mod Turns
 pub mod Values
 pub mod Works

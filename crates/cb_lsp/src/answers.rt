@@ -21,7 +21,9 @@ ghost use Rattle.cb_lsp.specs.Answers.{
   hover_over,
   list_of,
   places_of_word,
+  references_of_word,
   word_meaning,
+  word_references,
 };
 ghost use Rattle.cb_lsp.specs.Headers.{folder_of, header_at, header_files};
 ghost use Rattle.cb_lsp.specs.Hovers.{hover_of, hover_texts};
@@ -30,6 +32,7 @@ ghost use Rattle.cb_lsp.specs.Symbols.{file_place, file_symbol, session_symbol};
 ghost use Rattle.cb_lsp.specs.Words.{word_at};
 ghost use Rattle.cb_lsp.specs.steps.Located.{client_in};
 ghost use Rattle.cb_lsp.specs.steps.Meanings.{meaning_left};
+ghost use Rattle.cb_lsp.specs.steps.References.{references_left};
 ghost use Rattle.cb_lsp.specs.declared.symbols.TheConstants.{MOST_SYMBOLS};
 
 use crate::columns::Positions;
@@ -40,6 +43,7 @@ use crate::location::{Forms, Located, range_of};
 use crate::meaning::Meaning;
 use crate::place::bytes_of;
 use crate::question::FileQuestion;
+use crate::references::{References, UsePlaces};
 use crate::symbols::{
     FileDefs, FlatSymbols, HeaderFiles, MOST_SYMBOLS, OneFile, Places, SessionSymbols, TreeSymbols,
     keep_like, next_like,
@@ -322,6 +326,53 @@ impl<'a> FileAsked<'a> {
         }
     }
 
+    /// The uses of a word of the file in its reach.
+    fn references<'p>(&'p self, word: Span, declarations: bool) -> References<'a, 'p>
+        ensures { references_left result ≡ word_references self.now.desk.now.timeline.present
+            self.now.name.now self.now.source.now word declarations }
+    {
+        let _files = self.desk.files();
+        let name = bytes_of(self.source, word);
+        References::new(
+            self.desk.uses(name),
+            self.desk.definitions(name),
+            self.name,
+            declarations,
+        )
+    }
+
+    /// Writes where the uses of a word in its reach are.
+    fn put_references<W: Write>(
+        &self,
+        out: &mut Sink<W>,
+        id: Id<'_>,
+        word: Option<Span>,
+        declarations: bool,
+    ) -> Result<(), WriteFault>
+        ensures { Puts out.old out.new result (frame (value_text (result_reply (id_json id.entry)
+            (references_of_word (client_in self.now.forms) self.now.desk.now.timeline.present
+            self.now.name.now self.now.source.now declarations word)))) }
+    {
+        match word {
+            Some(word) => put_list(
+                out,
+                id,
+                UsePlaces {
+                    places: Located::new(self.forms, self.desk),
+                    rest: self.references(word, declarations),
+                },
+            ),
+            None => put_list(
+                out,
+                id,
+                OneFile {
+                    forms: self.forms,
+                    rest: None,
+                },
+            ),
+        }
+    }
+
     /// Answers a question about the file.
     pub(crate) fn put_answer<W: Write>(
         &self,
@@ -349,6 +400,10 @@ impl<'a> FileAsked<'a> {
             FileQuestion::Highlights(position) => {
                 let place = place_of_position(encoding, text, position);
                 self.put_highlights(out, id, word_at(self.source, place))
+            }
+            FileQuestion::References(position, declarations) => {
+                let place = place_of_position(encoding, text, position);
+                self.put_references(out, id, word_at(self.source, place), declarations)
             }
         }
     }

@@ -22,6 +22,8 @@ mod notice;
 mod params;
 mod place;
 mod question;
+mod reach;
+mod references;
 mod run;
 mod server;
 mod symbols;

@@ -1,14 +1,16 @@
-//! Where definitions are, and how a client has it.
+//! Where definitions and uses are, and how a client has it.
 ghost use Rattle.std.specs.Prelude.{◌≡◌, ◌+◌, length};
 ghost use Rattle.cb_desk.specs.World.{text_of_file};
+ghost use Rattle.cb_index.specs.steps.Left.{fact_of_spot};
 ghost use Rattle.cb_tags.specs.TagLines.{tag_of};
 ghost use Rattle.cb_wire.specs.Locations.{location_tree};
 ghost use Rattle.cb_lsp.specs.Places.{range_of, start_of_file};
-ghost use Rattle.cb_lsp.specs.Symbols.{file_place, place_of};
+ghost use Rattle.cb_lsp.specs.Symbols.{file_place, name_place, place_of, place_of_use};
 ghost use Rattle.cb_lsp.specs.steps.Located.{client_in};
 
 use crate::columns::Positions;
 use cb_desk::Desk;
+use cb_index::FactSpot;
 use cb_scan::{Source, Span};
 use cb_tags::TagRow;
 use cb_wire::{Encoding, Location, Position, Range, Root};
@@ -62,7 +64,7 @@ struct FilePositions<'a> {
     positions: Positions<'a>,
 }
 
-/// Where definitions are, as a client has it. Those of one file that come one behind the other go
+/// Where definitions and uses are, as a client has it. Those of one file that come one behind the other go
 /// through each line of it twice.
 #[derive(Drop)]
 pub(crate) struct Located<'a> {
@@ -128,26 +130,36 @@ impl<'a> Located<'a> {
         Some(Positions::new(self.forms.encoding, source))
     }
 
-    /// The range of the name of a definition.
-    fn range(&mut self, row: &TagRow<'a>) -> Range
+    /// The range of a name that begins at a place of a file.
+    fn range(&mut self, file: &'a [u8], name: &[u8], place: u32) -> Range
         ensures range { result ≡ range_of self.old.client.encoding
-            (text_of_file self.old.files row.now.file.now) row.now.place
-            (row.now.place + length row.now.name.now) }
+            (text_of_file self.old.files file.now) place (place + length name.now) }
         ensures same { self.new ≡ self.old }
     {
-        let start = row.place as usize;
-        let end = start + row.name.len();
-        match self.positions_in(row.file) {
+        let start = place as usize;
+        let end = start + name.len();
+        match self.positions_in(file) {
             Some(found) => {
                 let mut positions = found;
                 let range = positions.range(start, end);
-                self.last = Some(FilePositions {
-                    file: row.file,
-                    positions,
-                });
+                self.last = Some(FilePositions { file, positions });
                 range
             }
             None => start_of_file(),
+        }
+    }
+
+    /// Where a name is that begins at a place of a file.
+    fn name_place(&mut self, file: &'a [u8], name: &[u8], place: u32) -> Location<'a>
+        ensures place { location_tree result
+            ≡ name_place self.old.client self.old.files file.entry.now name.now place }
+        ensures same { self.new ≡ self.old }
+    {
+        let range = self.range(file, name, place);
+        Location {
+            root: self.forms.root,
+            name: file,
+            range,
         }
     }
 
@@ -157,11 +169,15 @@ impl<'a> Located<'a> {
             ≡ place_of self.old.client self.old.files (tag_of row.now) }
         ensures same { self.new ≡ self.old }
     {
-        let range = self.range(row);
-        Location {
-            root: self.forms.root,
-            name: row.file,
-            range,
-        }
+        self.name_place(row.file, row.name, row.place)
+    }
+
+    /// Where the name of a use is.
+    pub(crate) fn use_place(&mut self, spot: &FactSpot<'a>) -> Location<'a>
+        ensures place { location_tree result
+            ≡ place_of_use self.old.client self.old.files (fact_of_spot spot.now) }
+        ensures same { self.new ≡ self.old }
+    {
+        self.name_place(spot.file, spot.name, spot.place)
     }
 }

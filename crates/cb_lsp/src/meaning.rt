@@ -45,7 +45,7 @@ fn is_private_in(row: &TagRow<'_>, file: &[u8]) -> bool
 }
 
 /// Whether one of these definitions is private to a file.
-fn has_private(rows: &Definitions<'_, '_>, file: &[u8]) -> bool
+pub(crate) fn has_private(rows: &Definitions<'_, '_>, file: &[u8]) -> bool
     ensures { result ≡ has_private file.now rows.now }
 {
     let mut left = rows.again();
@@ -59,7 +59,7 @@ fn has_private(rows: &Definitions<'_, '_>, file: &[u8]) -> bool
 
 /// Whether one of the first definitions, those of a file, is private.
 #[tactic(auto, unfolding(crate::specs::steps::Meanings::begins_private))]
-fn begins_private(rows: &Definitions<'_, '_>, file: &[u8]) -> bool
+pub(crate) fn begins_private(rows: &Definitions<'_, '_>, file: &[u8]) -> bool
     ensures { result ≡ begins_private file.now rows.now }
 {
     let mut left = rows.again();

@@ -5,9 +5,11 @@ ghost use Rattle.json.specs.Value.{items_view, value_view};
 ghost use Rattle.cb_lsp.specs.Models.{change_seen};
 ghost use Rattle.cb_lsp.specs.Params.{
   are_changes,
+  bool_in,
   change_of,
   changes_among,
   changes_in,
+  declarations_in,
   document_text,
   first_of,
   has_text,
@@ -78,14 +80,21 @@ pub(crate) fn items_in<'v, 'a>(value: Option<&'v Value<'a>>) -> Option<&'v [Valu
     }
 }
 
+/// The truth value of a value, if it is one.
+fn bool_in<'v, 'a>(value: Option<&'v Value<'a>>) -> Option<bool>
+    ensures { result ≡ bool_in (seen value.entry) }
+{
+    match value {
+        Some(value) => value.as_bool(),
+        None => None,
+    }
+}
+
 /// Whether a value is `true`.
 fn is_true<'v, 'a>(value: Option<&'v Value<'a>>) -> bool
     ensures { result ≡ is_true (seen value.entry) }
 {
-    match value {
-        Some(value) => matches!(value.as_bool(), Some(true)),
-        None => false,
-    }
+    bool_in(value) == Some(true)
 }
 
 /// `textDocument.uri`.
@@ -123,6 +132,13 @@ pub(crate) fn position_of<'v, 'a>(params: Option<&'v Value<'a>>) -> Option<Posit
     ensures { result ≡ position_in (seen params.entry) }
 {
     position_at(member(params, "position"))
+}
+
+/// `context.includeDeclaration`
+pub(crate) fn declarations_of<'v, 'a>(params: Option<&'v Value<'a>>) -> Option<bool>
+    ensures { result ≡ declarations_in (seen params.entry) }
+{
+    bool_in(member(member(params, "context"), "includeDeclaration"))
 }
 
 /// A range: a start and an end.

@@ -7,12 +7,13 @@ ghost use Rattle.cb_lsp.specs.Questions.{
   at_place,
   in_file,
   or_bad,
+  uses_at,
   workspace_symbols,
 };
-ghost use Rattle.cb_lsp.specs.Params.{position_in, query_in, uri_in};
+ghost use Rattle.cb_lsp.specs.Params.{declarations_in, position_in, query_in, uri_in};
 ghost use Rattle.cb_lsp.specs.steps.Values.{seen};
 
-use crate::params::{position_of, query_of, uri_of};
+use crate::params::{declarations_of, position_of, query_of, uri_of};
 use cb_wire::{Call, Position};
 
 /// A question about one file.
@@ -26,6 +27,9 @@ pub(crate) enum FileQuestion {
     Hover(Position),
     /// The uses in the file of the word at a position.
     Highlights(Position),
+    /// The uses of the word at a position in all files of its reach, with the names of definitions
+    /// or without them.
+    References(Position, bool),
 }
 
 /// A question about the files.
@@ -88,6 +92,16 @@ fn highlights<'v, 'a>(call: Call<'v, 'a>) -> Option<Question<'a>>
     Some(Question::InFile(uri, FileQuestion::Highlights(position)))
 }
 
+fn references<'v, 'a>(call: Call<'v, 'a>) -> Option<Question<'a>>
+    ensures { option_map asked_of result ≡ uses_at (uri_in (seen call.entry.params))
+        (position_in (seen call.entry.params)) (declarations_in (seen call.entry.params)) }
+{
+    let uri = uri_of(call.params)?;
+    let position = position_of(call.params)?;
+    let declarations = declarations_of(call.params)?;
+    Some(Question::InFile(uri, FileQuestion::References(position, declarations)))
+}
+
 fn workspace_symbols<'v, 'a>(call: Call<'v, 'a>) -> Option<Question<'a>>
     ensures { option_map asked_of result
         ≡ option_map workspace_symbols (query_in (seen call.entry.params)) }
@@ -107,6 +121,8 @@ pub(crate) fn question_of<'v, 'a>(call: Call<'v, 'a>) -> Result<Question<'a>, Un
         or_bad(hover(call))
     } else if call.method == "textDocument/documentHighlight" {
         or_bad(highlights(call))
+    } else if call.method == "textDocument/references" {
+        or_bad(references(call))
     } else if call.method == "workspace/symbol" {
         or_bad(workspace_symbols(call))
     } else {

@@ -12,7 +12,7 @@ use crate::workspace::Workspace;
 use crate::written::{
     put_bad_name, put_failure, put_null, put_refusal, put_told, put_unasked, put_unread,
 };
-use cb_desk::Desk;
+use cb_desk::{Desk, Field};
 use cb_tags::{Sink, WriteFault, is_file_name};
 use cb_wire::{Call, Encoding, ErrorCode, Id, Root, path_of_uri, put_welcome};
 use json::Value;
@@ -235,6 +235,16 @@ impl Server {
         }
     }
 
+    /// Puts in order what a question reads. It changes no answer.
+    fn settle(&mut self, question: Question<'_>)
+        ensures { self.new ≡ self.old }
+    {
+        self.work.settle(Field::Definition);
+        if let Question::InFile(_, FileQuestion::References(_, _)) = question {
+            self.work.settle(Field::Symbol);
+        }
+    }
+
     /// Answers a question.
     fn answer<W: Write>(
         &mut self,
@@ -247,7 +257,7 @@ impl Server {
         ensures put { (no_memory : Bool) × Puts out.old out.new result (frame (value_text
             (asked_reply no_memory self.old (id_json id.entry) (Ok (asked_of question.entry))))) }
     {
-        self.work.settle();
+        self.settle(question);
         match question {
             Question::InFile(uri, question) => self.answer_at(alloc, out, id, uri, question),
             Question::WorkspaceSymbols(query) => {

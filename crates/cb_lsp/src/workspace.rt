@@ -103,11 +103,11 @@ impl Workspace {
         &self.desk
     }
 
-    /// Puts in order what questions about definitions read. It changes no answer.
-    pub(crate) fn settle(&mut self)
+    /// Puts in order what questions of a field read. It changes no answer.
+    pub(crate) fn settle(&mut self, field: Field)
         ensures { self.new ≡ self.old }
     {
-        self.desk.settle(Field::Definition);
+        self.desk.settle(field);
     }
 
     /// Makes a change, and forgets what was before it.

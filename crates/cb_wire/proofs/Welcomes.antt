@@ -24,7 +24,7 @@ pub welcome-text : (id : Id) (e : Encoding) (version : List ℕ)
     ++ (escape (encoding_name e)
     ++ (codes "\",\"textDocumentSync\":{\"openClose\":true,\"change\":2,\"save\":true},"
     ++ (codes "\"hoverProvider\":true,\"definitionProvider\":true,"
-    ++ (codes "\"documentHighlightProvider\":true,"
+    ++ (codes "\"referencesProvider\":true,\"documentHighlightProvider\":true,"
     ++ (codes "\"documentSymbolProvider\":true,\"workspaceSymbolProvider\":true},"
     ++ (codes "\"serverInfo\":{\"name\":\"cbrowse\",\"version\":\""
     ++ (escape version ++ codes "\"}}}")))))))))

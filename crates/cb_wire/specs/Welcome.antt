@@ -22,9 +22,10 @@ capabilities encoding =
     (member (codes "textDocumentSync") sync
     (member (codes "hoverProvider") (boolean true)
     (member (codes "definitionProvider") (boolean true)
+    (member (codes "referencesProvider") (boolean true)
     (member (codes "documentHighlightProvider") (boolean true)
     (member (codes "documentSymbolProvider") (boolean true)
-    (member (codes "workspaceSymbolProvider") (boolean true) no_members)))))))
+    (member (codes "workspaceSymbolProvider") (boolean true) no_members))))))))
 
 -- who the server is
 abbrev pub server_info : (version : List ℕ) → Json

@@ -11,10 +11,12 @@ use Rattle.cb_lsp.specs.Clients.{Client}
 use Rattle.cb_lsp.specs.Headers.{files_named}
 use Rattle.cb_lsp.specs.Highlights.{highlight, uses_of}
 use Rattle.cb_lsp.specs.Hovers.{hover_text}
-use Rattle.cb_lsp.specs.Symbols.{file_place, file_symbol_as, place_of, session_symbol}
+use Rattle.cb_lsp.specs.Symbols.{file_place, file_symbol_as, place_of, place_of_use}
+use Rattle.cb_lsp.specs.Symbols.{session_symbol}
 use Rattle.cb_lsp.specs.declared.highlights.Highlights.{Highlights}
 use Rattle.cb_lsp.specs.declared.hover.Hover.{Hover}
 use Rattle.cb_lsp.specs.declared.hover.Hovers.{Hovers}
+use Rattle.cb_lsp.specs.declared.references.UsePlaces.{UsePlaces}
 use Rattle.cb_lsp.specs.declared.symbols.FileDefs.{FileDefs}
 use Rattle.cb_lsp.specs.declared.symbols.FlatSymbols.{FlatSymbols}
 use Rattle.cb_lsp.specs.declared.symbols.HeaderFiles.{HeaderFiles}
@@ -24,6 +26,7 @@ use Rattle.cb_lsp.specs.declared.symbols.SessionSymbols.{SessionSymbols}
 use Rattle.cb_lsp.specs.declared.symbols.TreeSymbols.{TreeSymbols}
 use Rattle.cb_lsp.specs.steps.Located.{client_in}
 use Rattle.cb_lsp.specs.steps.Meanings.{meaning_left}
+use Rattle.cb_lsp.specs.steps.References.{references_left}
 
 -- what a client takes of the definitions of a file
 abbrev pub client_of_defs : FileDefs → Client
@@ -55,6 +58,10 @@ tree_left s = defs_left true s.defs
 abbrev pub places_left : Places → List (List ℕ)
 places_left p =
     map (λ t. value_text (place_of p.places.client p.places.files t)) (meaning_left p.rest)
+
+abbrev pub uses_left : UsePlaces → List (List ℕ)
+uses_left p =
+    map (λ u. value_text (place_of_use p.places.client p.places.files u)) (references_left p.rest)
 
 abbrev pub session_left : SessionSymbols → List (List ℕ)
 session_left s =

@@ -13,7 +13,7 @@ returns g c =
     ++ (codes ",\"result\":{\"capabilities\":{\"positionEncoding\":\"" ++ (escape name
     ++ (codes "\",\"textDocumentSync\":{\"openClose\":true,\"change\":2,\"save\":true},"
     ++ (codes "\"hoverProvider\":true,\"definitionProvider\":true,"
-    ++ (codes "\"documentHighlightProvider\":true,"
+    ++ (codes "\"referencesProvider\":true,\"documentHighlightProvider\":true,"
     ++ (codes "\"documentSymbolProvider\":true,\"workspaceSymbolProvider\":true},"
     ++ (codes "\"serverInfo\":{\"name\":\"cbrowse\",\"version\":\""
     ++ (escape c.args.version.now ++ codes "\"}}}"))))))))))

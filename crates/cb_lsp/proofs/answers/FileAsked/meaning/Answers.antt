@@ -1,6 +1,6 @@
 use Rattle.std.proofs.Common.{subst, sym}
 use Rattle.cb_lsp.specs.steps.Meanings.{AreByFile}
-use Rattle.cb_lsp.proofs.TagsByFile.{tags_named-by_file}
+use Rattle.cb_lsp.proofs.TagsByPlace.{tags_named-by_file}
 use Rattle.cb_lsp.proofs.answers.FileAsked.meaning.Goals as goal
 
 pub new-requires : goal.new-requires
