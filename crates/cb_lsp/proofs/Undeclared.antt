@@ -56,14 +56,14 @@ is-named u t f p =
     ap (λ b. b && t.place == u.place)
     (ap (λ n. bytes_eq n u.file) f ∙ name-same u.file) ∙ grind (arith, p)
 
-untrue : (b : Bool) → (b ≡ true → Empty) → b ≡ false
-untrue true no = absurd (no refl)
-untrue false no = refl
+untrue : (b : Bool) → (b ≡ true → ⊥) → b ≡ false
+untrue true never = absurd (never refl)
+untrue false never = refl
 
 -- ---- a definition that is passed is none of a later use
 
 passed-now : (u v : Fact) → ComesBefore u v → (t : Tag) → is_before u.file u.place t ≡ true
-    → IsNamed v t → Empty
+    → IsNamed v t → ⊥
 passed-now u v (inl less) t before at =
     true≢false (sym before ∙ ap (λ o. goes_first o (nat_lt t.place u.place))
     (ap (λ n. slice_cmp nat_cmp n u.file) at.file
@@ -81,7 +81,7 @@ passed u v later t before =
 -- ---- the first definition that is not passed
 
 later-none : (u : Fact) (t : Tag) → is_before u.file u.place t ≡ false
-    → is_name_of u t ≡ false → (s : Tag) → IsPlacedBefore t s → IsNamed u s → Empty
+    → is_name_of u t ≡ false → (s : Tag) → IsPlacedBefore t s → IsNamed u s → ⊥
 later-none u t ahead other s (inl less) at =
     true≢false (sym (before-of-less u t (ap (slice_cmp nat_cmp t.file) (sym at.file) ∙ less))
     ∙ ahead)

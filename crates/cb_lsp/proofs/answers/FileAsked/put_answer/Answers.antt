@@ -6,6 +6,7 @@ use Rattle.cb_wire.specs.Texts.{frame}
 use Rattle.cb_wire.specs.Trees.{result_reply}
 use Rattle.cb_wire.specs.Values.{value_text}
 use Rattle.cb_lsp.specs.Answers.{answer_in, definition_at, highlights_of, hover_at, list_of}
+use Rattle.cb_lsp.specs.Answers.{references_of_word}
 use Rattle.cb_lsp.specs.Headers.{header_at}
 use Rattle.cb_lsp.specs.Symbols.{file_symbol}
 use Rattle.cb_lsp.specs.Words.{word_at}
@@ -83,3 +84,20 @@ returns-in-Highlights g c =
     (frame (value_text (result_reply (id_json c.args.id)
     (highlights_of f.forms.encoding f.source.now f.facts.now.uses o)))))
     (c.word_at-in-Highlights.ensures ∙ ap (word_at f.source.now) at) call.ensures))
+
+pub returns-in-References : goal.returns-in-References
+returns-in-References g c =
+    let f = c.args.self.now in
+    let w = f.desk.now.timeline.present in
+    let cl = client_in f.forms in
+    let call = c.put_references in
+    let at = c.place_of_position-place-in-References.ensures.value
+    ∙ ap (λ t. place f.forms.encoding t c.in-References.position) c.bytes-text.ensures.value in
+    subst (λ q. Puts c.args.out.now call.new.out call.result
+    (frame (value_text (result_reply (id_json c.args.id)
+    (answer_in cl w f.name.now f.source.now q)))))
+    (sym c.in-References.is)
+    (subst (λ o. Puts c.args.out.now call.new.out call.result
+    (frame (value_text (result_reply (id_json c.args.id)
+    (references_of_word cl w f.name.now f.source.now c.in-References.declarations o)))))
+    (c.word_at-in-References.ensures ∙ ap (word_at f.source.now) at) call.ensures)

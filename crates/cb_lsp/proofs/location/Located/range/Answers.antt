@@ -5,9 +5,8 @@ use Rattle.cb_lsp.proofs.location.Located.range.Goals as goal
 
 pub returns-in-None-clause-range : goal.returns-in-None-clause-range
 returns-in-None-clause-range c =
-    let row = c.args.row.now in
-    let end = row.place + length row.name.now in
+    let end = c.args.place + length c.args.name.now in
     c.start_of_file.ensures
-    ∙ sym (ap (λ text. range_of c.args.self.now.client.encoding text row.place end)
+    ∙ sym (ap (λ text. range_of c.args.self.now.client.encoding text c.args.place end)
     c.in-None.ensures.found
-    ∙ no-range c.args.self.now.client.encoding row.place end)
+    ∙ no-range c.args.self.now.client.encoding c.args.place end)
