@@ -19,6 +19,8 @@ ready     From the start to the reply to `initialize`, and from the start to the
           what is resident then.
 ask       `definition`, `hover` and `documentHighlight` at a thousand names in the files that are
           defined somewhere, and `definition` at a thousand headers, which looks at all files;
+          `references` at these names, behind a first one that puts uses in order, and at the name
+          that is used most;
           `documentSymbol` of files of nearly 1,000 lines; `workspace/symbol` by parts of names, and
           by texts that no name holds. The last two look at all names, unless 1,000 of them hold the
           text.
@@ -42,6 +44,7 @@ Other work on the machine makes the times longer: run it twice, and on an idle m
 
 from __future__ import annotations
 
+import collections
 import json
 import os
 import pathlib
@@ -263,11 +266,36 @@ def headers(folder, names, count, dice):
     return dice.choices(found, k=count)
 
 
-def at_places(server, method, found):
+def at_places(server, method, found, **more):
+    places = [(name, {"line": line, "character": column}) for name, line, column in found]
     return [
-        frame(method, {**server.document(name), "position": {"line": line, "character": column}}, 1)
-        for name, line, column in found
+        frame(method, {**server.document(name), "position": place, **more}, 1)
+        for name, place in places
     ]
+
+
+def most_used(folder, names, there):
+    """A place of the name that is defined and stands most often in the files."""
+    counts, first = collections.Counter(), {}
+    for name in names:
+        text = (folder / name).read_bytes()
+        for it in NAME.finditer(text):
+            if it[0] in there:
+                counts[it[0]] += 1
+                first.setdefault(it[0], (name, it.start()))
+    name, at = first[counts.most_common(1)[0][0]]
+    before = (folder / name).read_bytes()[:at]
+    return name, before.count(b"\n"), len(before.split(b"\n")[-1].decode("latin-1"))
+
+
+def put_references(server, folder, names, there, found, nothing):
+    """Lines for uses in all files: the first question, at these places, and the name used most."""
+    method, context = "textDocument/references", {"includeDeclaration": True}
+    messages = at_places(server, method, found, context=context)
+    put("references, the first question", [server.ask(messages[0])[1]], nothing)
+    put_all("references", server, messages, nothing)
+    most = at_places(server, method, [most_used(folder, names, there)], context=context)
+    put_all("references, the most used name", server, most * RUNS, nothing)
 
 
 def of_lines(folder, names, count):
@@ -353,6 +381,7 @@ def ask(cbrowse, names, folder, there, dice):
     nothing = put_nothing(server)
     for label in "definition", "hover", "documentHighlight":
         put_all(label, server, at_places(server, f"textDocument/{label}", found), nothing)
+    put_references(server, folder, names, there, found, nothing)
     found = headers(folder, names, ASKED, dice)
     messages = at_places(server, "textDocument/definition", found)
     put_all("definition, a header", server, messages, nothing)

@@ -27,7 +27,7 @@ FILES = {
 TOO_LARGE = " " * (MOST_BYTES + 1)
 WORDS = ["lsp", "--max-file-bytes", str(MOST_BYTES), *FILES]
 AT_START = [b"cbrowse: " + name + b"out of memory\n" for name in (b"", b"a.c: ", b"b.h: ")]
-OTHERS = ("definition", "hover", "documentHighlight")  # requests that name a position
+OTHERS = ("definition", "hover", "references", "documentHighlight")  # requests that name a position
 HEAD = re.compile(rb"Content-Length: (\d+)\r\n\r\n")
 
 
@@ -81,7 +81,8 @@ def gone(name: str) -> Step:
 
 def asked(number: int, method: str, name: str, line: int, column: int) -> Step:
     place = {"line": line, "character": column} if method in OTHERS else None
-    return Step({"id": number, **document(method, name, position=place)})
+    context = {"includeDeclaration": False}
+    return Step({"id": number, **document(method, name, position=place, context=context)})
 
 
 def session() -> list[Step]:
@@ -89,6 +90,7 @@ def session() -> list[Step]:
     root = {"rootUri": uri_of("").rstrip("/"), "capabilities": {}}
     named = [asked(3, "definition", "a.c", 2, 9), asked(4, "hover", "a.c", 2, 13)]
     named.append(asked(10, "documentHighlight", "a.c", 2, 9))
+    named.append(asked(13, "references", "a.c", 2, 9))
     return [
         Step({"id": 0, "method": "initialize", "params": root}),
         Step({"method": "initialized", "params": {}}),

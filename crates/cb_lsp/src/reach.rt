@@ -104,8 +104,8 @@ impl<'a, 'p> Reached<'a, 'p> {
         }
     }
 
-    /// Goes on to a file, that of the next use.
-    fn go_to(&mut self, file: &'a [u8])
+    /// Goes on to the file of the next use.
+    fn enter(&mut self, file: &'a [u8])
         ensures hidden { self.new.hidden
             ≡ is_hidden self.old.last.now self.old.hidden file.now self.old.definitions }
         ensures definitions { self.new.definitions
@@ -131,7 +131,7 @@ impl<'a, 'p> Reached<'a, 'p> {
         if self.own {
             return spot.file == self.from;
         }
-        self.go_to(spot.file);
+        self.enter(spot.file);
         !self.hidden
     }
 }

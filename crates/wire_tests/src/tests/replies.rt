@@ -52,11 +52,11 @@ fn a_client_is_welcomed(rt: HostRuntime) {
     assert!(rt; put_welcome(&mut sink, id, Encoding::Utf16, b"1.2\"").is_ok());
     assert_eq!(rt;
         written.as_slice(),
-        b"Content-Length: 332\r\n\r\n{\"jsonrpc\":\"2.0\",\"id\":0,\"result\":\
+        b"Content-Length: 358\r\n\r\n{\"jsonrpc\":\"2.0\",\"id\":0,\"result\":\
           {\"capabilities\":{\"positionEncoding\":\"utf-16\",\
           \"textDocumentSync\":{\"openClose\":true,\"change\":2,\"save\":true},\
           \"hoverProvider\":true,\"definitionProvider\":true,\
-          \"documentHighlightProvider\":true,\
+          \"referencesProvider\":true,\"documentHighlightProvider\":true,\
           \"documentSymbolProvider\":true,\"workspaceSymbolProvider\":true},\
           \"serverInfo\":{\"name\":\"cbrowse\",\"version\":\"1.2\\\"\"}}}"
             .as_slice()
