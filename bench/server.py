@@ -63,6 +63,7 @@ from measure import options, processor_time, spread, words_given
 RUNS = 5
 ASKED = 1000  # questions of each kind
 SEARCHES = 200
+MUCH_USED = 50  # names among which the most used one is
 CHANGES = 200
 LONG = 20  # documents of nearly 1,000 lines
 FEW = 20  # files of clangd
@@ -274,8 +275,8 @@ def at_places(server, method, found, **more):
     ]
 
 
-def most_used(folder, names, there):
-    """A place of the name that is defined and stands most often in the files."""
+def much_used(folder, names, there):
+    """A place of each of the names that are defined and stand most often in the files."""
     counts, first = collections.Counter(), {}
     for name in names:
         text = (folder / name).read_bytes()
@@ -283,9 +284,11 @@ def most_used(folder, names, there):
             if it[0] in there:
                 counts[it[0]] += 1
                 first.setdefault(it[0], (name, it.start()))
-    name, at = first[counts.most_common(1)[0][0]]
-    before = (folder / name).read_bytes()[:at]
-    return name, before.count(b"\n"), len(before.split(b"\n")[-1].decode("latin-1"))
+    found = []
+    for name, at in (first[word] for word, _ in counts.most_common(MUCH_USED)):
+        before = (folder / name).read_bytes()[:at]
+        found.append((name, before.count(b"\n"), len(before.split(b"\n")[-1])))
+    return found
 
 
 def put_references(server, folder, names, there, found, nothing):
@@ -294,8 +297,9 @@ def put_references(server, folder, names, there, found, nothing):
     messages = at_places(server, method, found, context=context)
     put("references, the first question", [server.ask(messages[0])[1]], nothing)
     put_all("references", server, messages, nothing)
-    most = at_places(server, method, [most_used(folder, names, there)], context=context)
-    put_all("references, the most used name", server, most * RUNS, nothing)
+    messages = at_places(server, method, much_used(folder, names, there), context=context)
+    most = max(messages, key=lambda it: len(server.ask(it)[0]))
+    put_all("references, the most used name", server, [most] * RUNS, nothing)
 
 
 def of_lines(folder, names, count):

@@ -20,6 +20,7 @@ pub mod NamedParts
 pub mod NamedStandard
 pub mod NamedTags
 pub mod NamedTokens
+pub mod NamedUses
 pub mod NamedWide
 pub mod NamedWords
 pub mod NoText

@@ -25,7 +25,7 @@ use Rattle.cb_scan.specs.lex.Tokens.{bytes_of}
 use Rattle.cb_tags.specs.TagLines.{Tag}
 use Rattle.cb_lsp.specs.Answers.{word_meaning}
 use Rattle.cb_lsp.specs.Meaning.{meaning, or_all, reached, reaches}
-use Rattle.cb_lsp.specs.Ranges.{IsNameOf, IsNamedIn, span_of}
+use Rattle.cb_lsp.specs.Ranges.{IsNameOf, IsNamedIn, StandsIn, span_of}
 use Rattle.cb_lsp.specs.Searches.{found_by, is_like}
 use Rattle.cb_lsp.specs.declared.symbols.TheConstants.{MOST_SYMBOLS}
 use Rattle.cb_lsp.proofs.NamedDefs.{defs-named}
@@ -44,7 +44,7 @@ later-texts f fs (g ∷ gs) up own = (
   later-texts f fs gs up.1 own.1,
 )
 
-own-texts : (fs : List File) → IsAscending fs
+pub own-texts : (fs : List File) → IsAscending fs
     → AllByRecursion (λ (f : File). text_of_file fs f.name ≡ f.bytes) fs
 unfolding text_of_file IsStrictlySortedBy
 own-texts [] up = tt
@@ -70,17 +70,21 @@ span-is text s within =
 
 module _ (files : List File) where
   -- the text of the name of the file is that of the file
-  abbrev IsOwn : File → Type 0
+  abbrev pub IsOwn : File → Type 0
   IsOwn f = text_of_file files f.name ≡ f.bytes
+
+  pub name-stands : (f : File) → IsOwn f → (s : Span) → IsNameOf f.bytes s
+      → StandsIn files f.name (bytes_of f.bytes s) s.start
+  name-stands f own s named =
+      let name = bytes_of f.bytes s in
+      subst (λ text. IsNameOf text (span_of name s.start)
+      × (bytes_of text (span_of name s.start) ≡ name)) (sym own)
+      (subst (λ t. IsNameOf f.bytes t × (bytes_of f.bytes t ≡ name))
+      (span-is f.bytes s named.0) (named, refl))
 
   tag-named : (f : File) → IsOwn f → (d : Def) → IsNameOf f.bytes d.name
       → IsNamedIn files (tag_in f d)
-  tag-named f own d named =
-      let name = bytes_of f.bytes d.name in
-      subst (λ text. IsNameOf text (span_of (tag_in f d))
-      × (bytes_of text (span_of (tag_in f d)) ≡ name)) (sym own)
-      (subst (λ s. IsNameOf f.bytes s × (bytes_of f.bytes s ≡ name))
-      (span-is f.bytes d.name named.0) (named, refl))
+  tag-named f own d named = name-stands f own d.name named
 
   module _ (p : Profile) where
     file-named : (f : File) → IsOwn f → (ds : List Def)

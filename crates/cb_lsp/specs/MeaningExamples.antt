@@ -1,9 +1,11 @@
 -- What names mean in files, computed. The expected values are worked out by hand.
 use Rattle.std.specs.Prelude.{◌≡◌, ℕ, Bool, true, false, List, [], ◌∷◌, codes, None, refl}
+use Rattle.cb_index.specs.Rows.{Fact}
 use Rattle.cb_scan.specs.declared.facts.Kind.{Kind}
 use Rattle.cb_scan.specs.declared.facts.Kind.TheVariants.{Function, Variable, Prototype}
 use Rattle.cb_tags.specs.TagLines.{Tag}
 use Rattle.cb_lsp.specs.Meaning.{is_private, meaning}
+use Rattle.cb_lsp.specs.References.{references}
 use Rattle.cb_lsp.specs.Searches.{is_like}
 
 -- the definition of `f` in a file, `static` or not
@@ -71,3 +73,48 @@ found_once = refl
 
 pub found_in_another_case : is_like (codes "F") in_a ≡ true
 found_in_another_case = refl
+
+-- ---- uses
+
+-- a use of `f` in a file
+abbrev use_in : (file : List ℕ) → (place : ℕ) → Fact
+use_in file place = record {
+  file = file;
+  name = codes "f";
+  place = place;
+  scope = None;
+  scope_place = None;
+  line = 1;
+  text = [];
+}
+
+-- in each file at the place of a definition, and behind it twice at one place
+abbrev uses : List Fact
+uses =
+    use_in (codes "a.c") 0 ∷ use_in (codes "a.c") 7 ∷ use_in (codes "a.c") 7
+    ∷ use_in (codes "b.c") 0 ∷ use_in (codes "b.c") 7 ∷ use_in (codes "c.c") 0 ∷ []
+
+-- what is private to another file is not used here, and each other use counts
+pub used_here : references (in_a ∷ private_in_b ∷ []) (codes "c.c") true uses
+    ≡ use_in (codes "a.c") 0 ∷ use_in (codes "a.c") 7 ∷ use_in (codes "a.c") 7
+    ∷ use_in (codes "c.c") 0 ∷ []
+unfolding is_private
+used_here = refl
+
+-- what is private to the file is used there alone
+pub used_there : references (in_a ∷ private_in_b ∷ []) (codes "b.c") true uses
+    ≡ use_in (codes "b.c") 0 ∷ use_in (codes "b.c") 7 ∷ []
+unfolding is_private
+used_there = refl
+
+-- names of definitions are left out, of those files that have them
+pub without_definitions : references (in_a ∷ private_in_b ∷ []) (codes "a.c") false uses
+    ≡ use_in (codes "a.c") 7 ∷ use_in (codes "a.c") 7 ∷ use_in (codes "c.c") 0 ∷ []
+unfolding is_private
+without_definitions = refl
+
+-- where all are private to other files, the rest is in the reach
+pub without_any_definition : references (private_in_b ∷ private_in_c ∷ []) (codes "a.c") false uses
+    ≡ use_in (codes "a.c") 0 ∷ use_in (codes "a.c") 7 ∷ use_in (codes "a.c") 7 ∷ []
+unfolding is_private
+without_any_definition = refl

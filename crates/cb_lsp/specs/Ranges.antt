@@ -5,6 +5,7 @@ use Rattle.cb_scan.specs.declared.lex.piece.Span.{Span}
 use Rattle.cb_scan.specs.lex.Reserved.{is_name}
 use Rattle.cb_scan.specs.lex.Tokens.{bytes_of}
 use Rattle.cb_desk.specs.World.{File, text_of_file}
+use Rattle.cb_index.specs.Rows.{Fact}
 use Rattle.cb_tags.specs.TagLines.{Tag}
 use Rattle.cb_wire.specs.declared.position.Position.{Position}
 use Rattle.cb_wire.specs.declared.position.Range.{Range}
@@ -25,12 +26,20 @@ LiesInside inner outer = IsNotBehind outer.start inner.start × IsNotBehind inne
 abbrev pub IsNameOf : List ℕ → Span → Type 0
 IsNameOf text span = IsWithin text span × (is_name (bytes_of text span) ≡ true)
 
--- where the name of a definition is
-abbrev pub span_of : Tag → Span
-span_of t = record { start = t.place; end = t.place + length t.name }
+-- where a name is that begins at a place
+abbrev pub span_of : (name : List ℕ) → (place : ℕ) → Span
+span_of name place = record { start = place; end = place + length name }
 
--- the name of a definition stands where it says, in the text that its file has
+-- a name stands at a place of a file, in the text that the file has
+abbrev pub StandsIn : List File → (file name : List ℕ) → (place : ℕ) → Type 0
+StandsIn files file name place =
+    let text = text_of_file files file in
+    IsNameOf text (span_of name place) × (bytes_of text (span_of name place) ≡ name)
+
+-- the name of a definition stands where it says
 abbrev pub IsNamedIn : List File → Tag → Type 0
-IsNamedIn files t =
-    let text = text_of_file files t.file in
-    IsNameOf text (span_of t) × (bytes_of text (span_of t) ≡ t.name)
+IsNamedIn files t = StandsIn files t.file t.name t.place
+
+-- a use is one of a name, and the name stands where it says
+abbrev pub IsUseIn : List File → (name : List ℕ) → Fact → Type 0
+IsUseIn files name u = (u.name ≡ name) × StandsIn files u.file name u.place

@@ -13,7 +13,7 @@ use Rattle.cb_lsp.specs.Changes.{part, whole}
 use Rattle.cb_lsp.specs.Params.{are_changes, changes_among, changes_in, has_text, number_in}
 use Rattle.cb_lsp.specs.Params.{root_in, takes_trees, takes_utf8}
 use Rattle.cb_lsp.specs.Questions.{asked_by, in_file, workspace_symbols}
-use Rattle.cb_lsp.specs.declared.question.FileQuestion.TheVariants.{Hover}
+use Rattle.cb_lsp.specs.declared.question.FileQuestion.TheVariants.{Hover, References}
 use Rattle.cb_lsp.specs.Words.{word_at}
 
 -- an object of one member
@@ -138,6 +138,22 @@ pub what_stands_there : asked_by (codes "textDocument/hover") (Some (object
     (member (codes "textDocument") document (member (codes "position") position no_members))))
     ≡ Ok (in_file (codes "file:///a.c") (Hover (record { line = 2; character = 5 })))
 what_stands_there = refl
+
+abbrev uses_asked : (context : Json) → Option Json
+uses_asked context =
+    Some (object (member (codes "context") context (member (codes "textDocument") document
+    (member (codes "position") position no_members))))
+
+-- uses, without the names of definitions
+pub where_it_is_used : asked_by (codes "textDocument/references")
+    (uses_asked (one (codes "includeDeclaration") (boolean false)))
+    ≡ Ok (in_file (codes "file:///a.c") (References (record { line = 2; character = 5 }) false))
+where_it_is_used = refl
+
+-- whether these are wanted has to be told
+pub with_or_without : asked_by (codes "textDocument/references") (uses_asked (object no_members))
+    ≡ Err BadParameters
+with_or_without = refl
 
 -- the document is not named at the top
 pub a_misplaced_document : asked_by (codes "textDocument/documentSymbol") (Some document)

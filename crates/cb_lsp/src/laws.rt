@@ -1,17 +1,18 @@
 //! What follows from the definitions alone: no code runs here.
-ghost use Rattle.std.specs.Prelude.{◌≡◌, ◌≤◌, ℕ, List, Some};
+ghost use Rattle.std.specs.Prelude.{◌≡◌, ◌≤◌, ℕ, Bool, List, Some};
 ghost use Rattle.std.specs.List.{AllByRecursion};
 ghost use Rattle.cb_scan.specs.declared.facts.Def.{Def};
 ghost use Rattle.cb_scan.specs.declared.lex.piece.Span.{Span};
 ghost use Rattle.cb_scan.specs.declared.profile.Profile.{Profile};
 ghost use Rattle.cb_scan.specs.Profiles.{facts_in};
+ghost use Rattle.cb_scan.specs.lex.Tokens.{bytes_of};
 ghost use Rattle.cb_wire.specs.declared.position.Position.{Position};
 ghost use Rattle.cb_wire.specs.declared.units.Encoding.{Encoding};
 ghost use Rattle.cb_wire.specs.Positions.{place};
 ghost use Rattle.cb_desk.specs.World.{IsAscending, World};
-ghost use Rattle.cb_lsp.specs.Answers.{word_meaning};
+ghost use Rattle.cb_lsp.specs.Answers.{word_meaning, word_references};
 ghost use Rattle.cb_lsp.specs.Places.{line_range, range_of, range_of_line, start_of_file};
-ghost use Rattle.cb_lsp.specs.Ranges.{IsInOrder, IsNameOf, IsNamedIn, LiesInside};
+ghost use Rattle.cb_lsp.specs.Ranges.{IsInOrder, IsNameOf, IsNamedIn, IsUseIn, LiesInside};
 ghost use Rattle.cb_lsp.specs.Searches.{found_by};
 ghost use Rattle.cb_lsp.specs.Sync.{
   DocumentsStayInSync,
@@ -46,7 +47,7 @@ pub fn ranges_are_in_order()
 
 /// Where an answer has the range of a name, that name stands there: the word at a position; the name
 /// of each definition of a text, by every profile; the name of each definition that a word means or
-/// a query finds, in the text that its file has.
+/// a query finds, and each use of a name that is asked for, in the text that its file has.
 pub fn ranges_are_of_names()
     ensures word { (e : Encoding) (text : List ℕ) (p : Position) (word : Span)
         → word_at text (place e text p) ≡ Some word → IsNameOf text word }
@@ -54,6 +55,10 @@ pub fn ranges_are_of_names()
         → AllByRecursion (λ (d : Def). IsNameOf text d.name) (facts_in profile text).defs }
     ensures meaning { (w : World) (name text : List ℕ) (word : Span) → IsAscending w.files
         → AllByRecursion (IsNamedIn w.files) (word_meaning w name text word) }
+    ensures uses { (w : World) (name text : List ℕ) (word : Span) (declarations : Bool)
+        → IsAscending w.files → IsNameOf text word
+        → AllByRecursion (IsUseIn w.files (bytes_of text word))
+        (word_references w name text word declarations) }
     ensures found { (w : World) (query : List ℕ) → IsAscending w.files
         → AllByRecursion (IsNamedIn w.files) (found_by w query) }
 {}

@@ -1,5 +1,6 @@
 use Rattle.cb_lsp.proofs.NamedDefs.{defs-named}
 use Rattle.cb_lsp.proofs.NamedTags.{found-named, meaning-named}
+use Rattle.cb_lsp.proofs.NamedUses.{references-named}
 use Rattle.cb_lsp.proofs.NamedWords.{word-named}
 use Rattle.cb_lsp.proofs.laws.ranges_are_of_names.Goals as goal
 
@@ -11,6 +12,9 @@ returns-clause-definition c = defs-named
 
 pub returns-clause-meaning : goal.returns-clause-meaning
 returns-clause-meaning c = meaning-named
+
+pub returns-clause-uses : goal.returns-clause-uses
+returns-clause-uses c = references-named
 
 pub returns-clause-found : goal.returns-clause-found
 returns-clause-found c = found-named
