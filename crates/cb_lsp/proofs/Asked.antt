@@ -15,7 +15,6 @@ use Rattle.cb_wire.specs.Uris.{name_below, path_of}
 use Rattle.cb_wire.specs.Values.{items_of, value_text}
 use Rattle.cb_lsp.specs.Answers.{answer_in, answer_named, name_of_uri}
 use Rattle.cb_lsp.specs.Clients.{Client}
-use Rattle.cb_lsp.specs.Documents.{Work}
 use Rattle.cb_lsp.specs.Messages.{Serving, asked_reply}
 use Rattle.cb_lsp.specs.Questions.{Asked, in_file, workspace_symbols}
 use Rattle.cb_lsp.specs.Searches.{found_by}
@@ -131,34 +130,29 @@ puts-nowhere s uri question id before after r none put =
     subst (λ n. Puts before after r
     (frame (value_text (result_reply id (answer_named s.client s.work.world question n))))) same put
 
--- ---- a server whose files and documents are the same
+-- ---- a server that is the same
 
-pub puts-asked : {A E : Type 0} (s inside : Serving) (work : Work) (no_memory : Bool)
-    (asked to : Asked) (id : Json) (before after : Writer) (r : Result A E)
-    → inside ≡ s → work ≡ inside.work → asked ≡ to
-    → Puts before after r
-    (frame (value_text (asked_reply no_memory (record inside { work = work }) id (Ok asked))))
+pub puts-asked : {A E : Type 0} (s inside : Serving) (no_memory : Bool) (asked to : Asked)
+    (id : Json) (before after : Writer) (r : Result A E) → inside ≡ s → asked ≡ to
+    → Puts before after r (frame (value_text (asked_reply no_memory inside id (Ok asked))))
     → Puts before after r (frame (value_text (asked_reply no_memory s id (Ok to))))
-puts-asked s inside work no_memory asked to id before after r is work-is asks put =
-    let same : record inside { work = work } ≡ s =
-    ap (λ w. record inside { work = w }) work-is ∙ is in
+puts-asked s inside no_memory asked to id before after r is asks put =
     subst (λ a. Puts before after r (frame (value_text (asked_reply no_memory s id (Ok a))))) asks
     (subst (λ (x : Serving). Puts before after r
-    (frame (value_text (asked_reply no_memory x id (Ok asked))))) same put)
+    (frame (value_text (asked_reply no_memory x id (Ok asked))))) is put)
 
-pub puts-symbols : {A E : Type 0} (s inside : Serving) (work : Work) (world : World) (c : Client)
+pub puts-symbols : {A E : Type 0} (s inside : Serving) (world : World) (c : Client)
     (query text : List ℕ) (to : Asked) (id : Json) (before after : Writer) (r : Result A E)
-    → inside ≡ s → work ≡ inside.work → workspace_symbols query ≡ to
-    → world ≡ work.world → c ≡ inside.client → text ≡ query
+    → inside ≡ s → workspace_symbols query ≡ to
+    → world ≡ inside.work.world → c ≡ inside.client → text ≡ query
     → Puts before after r (frame (value_text (result_reply id
     (array (items_of (map (session_symbol c world.files) (found_by world text)))))))
     → Puts before after r (frame (value_text (asked_reply false s id (Ok to))))
-puts-symbols s inside work world c query text to id before after r is work-is asks world-is c-is
-    text-is put =
+puts-symbols s inside world c query text to id before after r is asks world-is c-is text-is put =
     let told : Client → World → List ℕ → Json =
     λ k w q. array (items_of (map (session_symbol k w.files) (found_by w q))) in
-    let same : told c world text ≡ told inside.client work.world query =
+    let same : told c world text ≡ told inside.client inside.work.world query =
     ap (λ k. told k world text) c-is ∙ ap (λ w. told inside.client w text) world-is
-    ∙ ap (told inside.client work.world) text-is in
-    puts-asked s inside work false (workspace_symbols query) to id before after r is work-is asks
+    ∙ ap (told inside.client inside.work.world) text-is in
+    puts-asked s inside false (workspace_symbols query) to id before after r is asks
     (subst (λ j. Puts before after r (frame (value_text (result_reply id j)))) same put)
