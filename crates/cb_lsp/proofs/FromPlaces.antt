@@ -1,13 +1,12 @@
 -- The definitions from a place on, of those that go by file and place.
-use Rattle.std.proofs.Common.{◌≡◌, ◌∙◌, ◌||◌, ◌&&◌, ◌≤◌, ◌<◌, ◌==◌, not, cond, sym, ap, subst, refl}
-use Rattle.std.proofs.Common.{ℕ, zero, suc, Bool, true, false, List, [], ◌∷◌, filter, nat_lt, arith}
+use Rattle.std.proofs.Common.{◌≡◌, ◌∙◌, ◌||◌, not, sym, ap, refl}
+use Rattle.std.proofs.Common.{ℕ, Bool, true, false, List, [], ◌∷◌, nat_lt, arith}
 use Rattle.std.proofs.Common.{if◌then◌else◌, inl, inr, Less, Equal, Greater, Ordering}
 use Rattle.std.proofs.lemmas.Bool.{false≢true, true≢false}
 use Rattle.std.proofs.lemmas.Cmp.{nat_list_cmp_total, tied_itself}
 use Rattle.std.specs.Cmp.Lexicographic.{slice_cmp}
 use Rattle.std.specs.List.{AllByRecursion, list_any}
 use Rattle.std.specs.Ordering.{is_gt, nat_cmp, ordering_reverse}
-use Rattle.std.specs.Str.{bytes_eq}
 use Rattle.cb_desk.proofs.Valid.{all-along}
 use Rattle.cb_scan.proofs.OrderLemmas.{first_trans}
 use Rattle.cb_scan.specs.Order.{AreOrdered}

@@ -1,15 +1,15 @@
 -- The uses that are no names of definitions are read beside these, as both go by file and place.
-use Rattle.std.proofs.Common.{◌≡◌, ◌∙◌, ◌||◌, ◌&&◌, ◌≤◌, ◌<◌, ◌==◌, not, cond, sym, ap, ap₂, subst}
-use Rattle.std.proofs.Common.{refl, ℕ, Bool, true, false, List, [], ◌∷◌, filter, nat_lt, nat_eq}
-use Rattle.std.proofs.Common.{if◌then◌else◌, inl, inr, Less, Equal, Greater, Ordering, arith}
+use Rattle.std.proofs.Common.{◌≡◌, ◌∙◌, ◌||◌, ◌&&◌, ◌==◌, cond, sym, ap, ap₂}
+use Rattle.std.proofs.Common.{refl, ℕ, Bool, true, false, List, [], ◌∷◌, filter, nat_lt}
+use Rattle.std.proofs.Common.{if◌then◌else◌, inl, inr, Less, Equal, arith}
 use Rattle.std.proofs.lemmas.Bool.{false≢true, true≢false}
 use Rattle.std.proofs.lemmas.Cmp.{nat_list_cmp_total, tied_itself}
 use Rattle.std.specs.Cmp.Lexicographic.{slice_cmp}
-use Rattle.std.specs.List.{AllByRecursion, list_any}
+use Rattle.std.specs.List.{AllByRecursion}
 use Rattle.std.specs.Ordering.{nat_cmp, ordering_reverse}
 use Rattle.std.specs.Str.{bytes_eq}
 use Rattle.cb_desk.proofs.PlaceLemmas.{name-same, same-name}
-use Rattle.cb_desk.proofs.Valid.{all-along, all-both, all-filter}
+use Rattle.cb_desk.proofs.Valid.{all-both, all-filter}
 use Rattle.cb_index.specs.FactOrder.{ComesBefore}
 use Rattle.cb_index.specs.Rows.{Fact}
 use Rattle.cb_scan.specs.Order.{AreOrdered}
