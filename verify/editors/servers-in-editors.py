@@ -9,9 +9,10 @@ nvim and emacs with eglot (tried with those of Debian 12: 0.7.2, and 28.2 with 1
 ASCII. An editor that is not there is passed over. What they have to be told was worked out by hand.
 
     Tree      a small tree under git. Definitions of functions, also of static ones, of macros in
-              headers and of headers on `#include` lines; hover; highlights; symbols of a document
-              and of the workspace. Columns count behind letters outside ASCII. What git ignores is
-              not found, nor are links; a new file is
+              headers and of headers on `#include` lines; hover; uses in all files, without the
+              names of definitions; highlights; symbols of a document and of the workspace. Columns
+              count behind letters outside ASCII. What git ignores is not found, nor are links; a
+              new file is
     Edits     definitions follow what is typed before it is saved, and go back where it is undone.
               After a document is closed with its edit thrown away, answers are about the text that
               was saved, or else opened. So it is with a file that was never on disk
@@ -56,6 +57,7 @@ FOLDERS = {"nvim": "a tree \u00e9", "emacs": "a tree"}
 METHODS = {
     "definition": "textDocument/definition",
     "hover": "textDocument/hover",
+    "uses": "textDocument/references",
     "marks": "textDocument/documentHighlight",
     "symbols": "textDocument/documentSymbol",
     "workspace": "workspace/symbol",
@@ -158,6 +160,7 @@ function does.ask(step)
   else
     at({'', step[2], step[4] or 0, step[5] or 0})
     params = vim.lsp.util.make_position_params(0, client.offset_encoding)
+    params.context = {includeDeclaration = false}  -- of a request for uses
   end
   times = {}
   for _ = 1, given.again do
@@ -225,7 +228,9 @@ EMACS_SCRIPT = r"""
       (let ((began (float-time)))
         (setq result (jsonrpc-request
                       (eglot-current-server) (intern (concat ":" method))
-                      (if (stringp line) (list :query line) (eglot--TextDocumentPositionParams))))
+                      (if (stringp line) (list :query line)
+                        (append (eglot--TextDocumentPositionParams)  ; the context of uses
+                                '(:context (:includeDeclaration :json-false))))))
         (push (* 1000 (- (float-time) began)) times)))
     (vector result (vconcat times))))
 (defun step-done (step)
@@ -321,6 +326,10 @@ def questions(plan: Plan) -> None:
     helper = "src/main.c:5\nstatic int helper(int a)"
     plan.ask("hover", main, 11, 22, is_now=(helper, 11, 19, 25))
     plan.ask("hover", main, 11, 15, is_now=None)
+    plan.ask("uses", main, 11, 22, is_now=[(main, 11, 19, 25)])  # helper, static in two files
+    plan.ask("uses", main, 11, 40, is_now=[("lib/deep/list.h", 1, 4, 8), (main, 11, 37, 41)])
+    plan.ask("uses", main, 6, 12, is_now=[(main, 6, 12, 17)])  # SIDES
+    plan.ask("uses", main, 11, 15, is_now=[])
     plan.ask("marks", main, 11, 22, is_now=[(4, 11, 17), (11, 19, 25)])  # helper
     plan.ask("marks", main, 6, 17, is_now=[(6, 12, 17)])  # SIDES
     plan.ask("marks", main, 11, 15, is_now=[])
@@ -419,7 +428,7 @@ def plain(method: str, told: object, root: pathlib.Path) -> object:
         return [(path_of(path, root), line, column) for path, line, column in [told]]
     if told is None or not isinstance(told, (list, dict)) or "error" in told:
         return told
-    if method.endswith("definition"):
+    if method.endswith(("definition", "references")):
         return [(*place_of(it, root), it["range"]["end"]["character"]) for it in told]
     if method.endswith("hover"):
         begin, end = told["range"]["start"], told["range"]["end"]
