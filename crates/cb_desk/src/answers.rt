@@ -20,5 +20,5 @@ pub use files::Files;
 pub(crate) use files::{scanned, shown_as, source, split_named};
 pub use rows::Rows;
 pub use tags::TagRows;
-pub(crate) use tags::tag_rows;
+pub(crate) use tags::{tag_rows, tag_rows_from};
 pub use uses::Uses;

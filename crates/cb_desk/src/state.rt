@@ -2,7 +2,7 @@
 ghost use Rattle.std.specs.Prelude.{◌≡◌, ◌≢◌, [], IfErr, IfOk, length};
 ghost use Rattle.std.specs.Option.{option_copied, option_map};
 ghost use Rattle.cb_scan.specs.Profiles.{facts_in};
-ghost use Rattle.cb_index.specs.Rows.{calls_in, calls_of, tags_named, uses_of};
+ghost use Rattle.cb_index.specs.Rows.{calls_in, calls_of, tags_from_name, tags_named, uses_of};
 ghost use Rattle.cb_desk.specs.Answer.{answer};
 ghost use Rattle.cb_desk.specs.Desk.{
   Counts,
@@ -353,5 +353,15 @@ impl Desk {
         ensures { result ≡ tags format self.now.timeline.present }
     {
         self.history.present().tag_rows(format)
+    }
+
+    /// The definitions of the present world whose names are not less than a name in the order of
+    /// their bytes, as tags, by name and then by file and place. After `settle_tags` of the format
+    /// `Extended` the first of them is found in an index.
+    pub fn tag_rows_from<'a>(&'a self, name: &'a [u8]) -> TagRows<'a>
+        ensures { result ≡ tags_from_name self.now.timeline.present.profile name.now
+            self.now.timeline.present.files }
+    {
+        self.history.present().tag_rows_from(name)
     }
 }

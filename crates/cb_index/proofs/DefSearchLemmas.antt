@@ -9,7 +9,6 @@ use Rattle.std.proofs.lemmas.List.Sums.{sum_by-append, sum_by-cons}
 use Rattle.std.proofs.lemmas.Option.{none-some}
 use Rattle.std.specs.Prelude.{cond, not, ◌&&◌, Option}
 use Rattle.std.specs.List.{AllByRecursion}
-use Rattle.std.specs.Option.{option_copied}
 use Rattle.std.specs.Ordering.{is_lt}
 use Rattle.cb_scan.specs.Order.{AreOrdered, goes_first, in_order, put}
 use Rattle.cb_scan.proofs.FactsWithin.{all_in_order, all_put}
@@ -25,6 +24,8 @@ use Rattle.cb_index.specs.Orders.{numbered, prefixed}
 use Rattle.cb_index.specs.steps.DefSearch.{earlier_of, first_among}
 use Rattle.cb_index.specs.steps.ToCome.{GoesOn, earlier, first_of, is_asked, is_later, is_to_come}
 use Rattle.cb_index.specs.steps.ToCome.{to_come}
+use Rattle.cb_index.specs.declared.asked.Asked.{Asked}
+use Rattle.cb_index.specs.declared.asked.Asked.TheVariants.{Every}
 use Rattle.cb_index.specs.declared.def_search.DefSearch.{DefSearch}
 use Rattle.cb_index.specs.declared.entry.Entry.{Entry}
 use Rattle.cb_index.specs.declared.entry.Shown.{Shown}
@@ -67,10 +68,10 @@ every : {X : Type 0} (xs : List X) → AllByRecursion (λ (_ : X). true ≡ true
 every [] = tt
 every (x ∷ xs) = (refl, every xs)
 
--- all are asked for where no key is
+-- all are asked for
 pub all_asked : (kind : IndexKind) (a : Archived) (es : List Entry)
-    → filter (is_asked kind a None) es ≡ es
-all_asked kind a es = filter_all (is_asked kind a None) es (every es)
+    → filter (is_asked kind a Every) es ≡ es
+all_asked kind a es = filter_all (is_asked kind a Every) es (every es)
 
 -- ---- elements of which no two are one
 abbrev pub Differ : {X : Type 0} → X → X → Type 0
@@ -188,7 +189,7 @@ front_and true c is = refl
 front_and false c is = is
 
 -- ---- one entry after another
-module _ (kind : IndexKind) (a : Archived) (key : Option (List ℕ)) where
+module _ (kind : IndexKind) (a : Archived) (asked : Asked) where
   abbrev order : Entry → List ℕ
   order = sort_key (keyer_of kind) a
 
@@ -212,8 +213,8 @@ module _ (kind : IndexKind) (a : Archived) (key : Option (List ℕ)) where
   -- of those still to come, the ones behind one of them are still to come once it was given
   still_to_come : (last : Option Entry) (e : Entry) → is_later (keyer_of kind) a last e ≡ true
       → (x : Entry)
-      → (is_to_come kind a key last x && not (goes_first order x e))
-      ≡ is_to_come kind a key (Some e) x
+      → (is_to_come kind a asked last x && not (goes_first order x e))
+      ≡ is_to_come kind a asked (Some e) x
   still_to_come last e later x = by_test (not (goes_first order x e)) refl
     where
       gone : (b : Bool) → (b && false) ≡ false
@@ -225,59 +226,59 @@ module _ (kind : IndexKind) (a : Archived) (key : Option (List ℕ)) where
       kept false = refl
 
       by_test : (b : Bool) → not (goes_first order x e) ≡ b
-          → (is_to_come kind a key last x && b) ≡ (b && is_asked kind a key x)
+          → (is_to_come kind a asked last x && b) ≡ (b && is_asked kind a asked x)
       by_test true is =
-          kept (is_to_come kind a key last x)
-          ∙ ap (λ b. b && is_asked kind a key x) (later_still last e x later is)
-      by_test false is = gone (is_to_come kind a key last x)
+          kept (is_to_come kind a asked last x)
+          ∙ ap (λ b. b && is_asked kind a asked x) (later_still last e x later is)
+      by_test false is = gone (is_to_come kind a asked last x)
 
   -- the first of those still to come, and those that are still to come once it was given
   pub next_to_come : (all : List Entry) → AreOrdered Differ all → (last : Option Entry) (e : Entry)
-      → first_of (to_come kind a key last all) ≡ Some e
-      → to_come kind a key last all ≡ e ∷ to_come kind a key (Some e) all
-  next_to_come all apart last e is = by_list (to_come kind a key last all) refl is
+      → first_of (to_come kind a asked last all) ≡ Some e
+      → to_come kind a asked last all ≡ e ∷ to_come kind a asked (Some e) all
+  next_to_come all apart last e is = by_list (to_come kind a asked last all) refl is
     where
-      given : (z : Entry) (rest : List Entry) → to_come kind a key last all ≡ z ∷ rest
-          → z ∷ rest ≡ z ∷ to_come kind a key (Some z) all
+      given : (z : Entry) (rest : List Entry) → to_come kind a asked last all ≡ z ∷ rest
+          → z ∷ rest ≡ z ∷ to_come kind a asked (Some z) all
       given z rest are =
-          let passed = subst (AllByRecursion (λ x. is_to_come kind a key last x ≡ true)) are
-          (all_in_order order (λ x. is_to_come kind a key last x ≡ true)
-          (filter (is_to_come kind a key last) all)
-          (all_passed (is_to_come kind a key last) all)) in
+          let passed = subst (AllByRecursion (λ x. is_to_come kind a asked last x ≡ true)) are
+          (all_in_order order (λ x. is_to_come kind a asked last x ≡ true)
+          (filter (is_to_come kind a asked last) all)
+          (all_passed (is_to_come kind a asked last) all)) in
           let later =
-          front_and (is_later (keyer_of kind) a last z) (is_asked kind a key z) passed.0 in
+          front_and (is_later (keyer_of kind) a last z) (is_asked kind a asked z) passed.0 in
           ap (λ l. z ∷ l)
           (first_and_rest order (sort_exact (keyer_of kind) a) z rest
-          (filter (is_to_come kind a key last) all)
-          (differ_filter order (is_to_come kind a key last) all apart) are
+          (filter (is_to_come kind a asked last) all)
+          (differ_filter order (is_to_come kind a asked last) all apart) are
           ∙ ap (in_order order)
-          (filter_twice (λ x. not (goes_first order x z)) (is_to_come kind a key last)
-          (is_to_come kind a key (Some z)) (still_to_come last z later) all))
+          (filter_twice (λ x. not (goes_first order x z)) (is_to_come kind a asked last)
+          (is_to_come kind a asked (Some z)) (still_to_come last z later) all))
 
       or_first : Option Entry → Entry → Entry
       or_first None d = d
       or_first (Some x) d = x
 
-      by_list : (zs : List Entry) → to_come kind a key last all ≡ zs → first_of zs ≡ Some e
-          → zs ≡ e ∷ to_come kind a key (Some e) all
+      by_list : (zs : List Entry) → to_come kind a asked last all ≡ zs → first_of zs ≡ Some e
+          → zs ≡ e ∷ to_come kind a asked (Some e) all
       by_list [] are first = absurd (none-some e first)
       by_list (z ∷ rest) are first =
-          subst (λ x. z ∷ rest ≡ x ∷ to_come kind a key (Some x) all) (ap (λ o. or_first o z) first)
+          subst (λ x. z ∷ rest ≡ x ∷ to_come kind a asked (Some x) all) (ap (λ o. or_first o z) first)
           (given z rest are)
 
   -- one more entry is still to come
   pub earlier_is : (last : Option Entry) (e : Entry) (seen : List Entry) (first : Option Entry)
-      → first ≡ first_of (to_come kind a key last seen) → is_to_come kind a key last e ≡ true
+      → first ≡ first_of (to_come kind a asked last seen) → is_to_come kind a asked last e ≡ true
       → Some (earlier (keyer_of kind) a first e)
-      ≡ first_of (to_come kind a key last (seen ++ e ∷ []))
+      ≡ first_of (to_come kind a asked last (seen ++ e ∷ []))
   unfolding put
   earlier_is last e seen first is passes =
-      let old = to_come kind a key last seen in
+      let old = to_come kind a asked last seen in
       ap (λ f. Some (earlier (keyer_of kind) a f e)) is ∙ by_list old
       ∙ ap first_of (sym (ap (in_order order)
-      (filter-append (is_to_come kind a key last) seen (e ∷ [])
-      ∙ ap (λ b. filter (is_to_come kind a key last) seen ++ cond b (e ∷ []) []) passes)
-      ∙ one_more order (sort_exact (keyer_of kind) a) e (filter (is_to_come kind a key last) seen)))
+      (filter-append (is_to_come kind a asked last) seen (e ∷ [])
+      ∙ ap (λ b. filter (is_to_come kind a asked last) seen ++ cond b (e ∷ []) []) passes)
+      ∙ one_more order (sort_exact (keyer_of kind) a) e (filter (is_to_come kind a asked last) seen)))
     where
       by_test : (b : Bool) (z : Entry) (zs : List Entry)
           → Some (cond b e z) ≡ first_of (cond b (e ∷ z ∷ zs) (z ∷ put order e zs))
@@ -291,28 +292,28 @@ module _ (kind : IndexKind) (a : Archived) (key : Option (List ℕ)) where
 
   -- one that is not still to come
   pub not_to_come : (last : Option Entry) (e : Entry) (seen : List Entry)
-      → is_to_come kind a key last e ≡ false
-      → to_come kind a key last seen ≡ to_come kind a key last (seen ++ e ∷ [])
+      → is_to_come kind a asked last e ≡ false
+      → to_come kind a asked last seen ≡ to_come kind a asked last (seen ++ e ∷ [])
   not_to_come last e seen fails =
-      ap (in_order order) (sym (filter-append (is_to_come kind a key last) seen (e ∷ [])
-      ∙ ap (λ b. filter (is_to_come kind a key last) seen ++ cond b (e ∷ []) []) fails
-      ∙ append-nil (filter (is_to_come kind a key last) seen)))
+      ap (in_order order) (sym (filter-append (is_to_come kind a asked last) seen (e ∷ [])
+      ∙ ap (λ b. filter (is_to_come kind a asked last) seen ++ cond b (e ∷ []) []) fails
+      ∙ append-nil (filter (is_to_come kind a asked last) seen)))
 
   -- they are no more than all
   pub few_to_come : (last : Option Entry) (es : List Entry)
-      → length (to_come kind a key last es) ≤ length es
+      → length (to_come kind a asked last es) ≤ length es
   few_to_come last es =
-      let same = length_in_order order (filter (is_to_come kind a key last) es) in
-      let fewer = filter_short (is_to_come kind a key last) es in
+      let same = length_in_order order (filter (is_to_come kind a asked last) es) in
+      let fewer = filter_short (is_to_come kind a asked last) es in
       omega (arith, same, fewer)
 
 -- before any is given, those that are asked for are still to come
-pub asked_first : (kind : IndexKind) (a : Archived) (key : Option (List ℕ)) (es : List Entry)
-    → to_come kind a key None es
-    ≡ filter (is_asked kind a key) (in_order (sort_key (keyer_of kind) a) es)
-asked_first kind a key es =
+pub asked_first : (kind : IndexKind) (a : Archived) (asked : Asked) (es : List Entry)
+    → to_come kind a asked None es
+    ≡ filter (is_asked kind a asked) (in_order (sort_key (keyer_of kind) a) es)
+asked_first kind a asked es =
     sym (filter_in_order (sort_key (keyer_of kind) a) (sort_exact (keyer_of kind) a)
-    (is_asked kind a key) es)
+    (is_asked kind a asked) es)
 
 -- the entries of a version that is there
 pub listed_defs : (by : Bool) (text : Scanned)
@@ -324,7 +325,7 @@ listed_defs true text = refl
 -- ---- the first one is found
 module _ (s : DefSearch) where
   abbrev Come : List Entry → List Entry
-  Come es = to_come (def_kind s.by_tag_name) s.archive.now (option_copied s.key) s.last es
+  Come es = to_come (def_kind s.by_tag_name) s.archive.now s.asked s.last es
 
   pub among_both : (before : Option Entry) (xs ys : List Entry)
       → first_among s before (xs ++ ys) ≡ first_among s (first_among s before xs) ys
@@ -338,20 +339,20 @@ module _ (s : DefSearch) where
   one_seen : (before : Option Entry) (e : Entry) (seen : List Entry) → before ≡ first_of (Come seen)
       → earlier_of s before e ≡ first_of (Come (seen ++ e ∷ []))
   one_seen before e seen is =
-      by_test (is_to_come (def_kind s.by_tag_name) s.archive.now (option_copied s.key) s.last e)
+      by_test (is_to_come (def_kind s.by_tag_name) s.archive.now s.asked s.last e)
       refl
     where
       by_test : (b : Bool)
-          → is_to_come (def_kind s.by_tag_name) s.archive.now (option_copied s.key) s.last e ≡ b
+          → is_to_come (def_kind s.by_tag_name) s.archive.now s.asked s.last e ≡ b
           → cond b (Some (earlier (keyer_of (def_kind s.by_tag_name)) s.archive.now before e))
           before
           ≡ first_of (Come (seen ++ e ∷ []))
       by_test true passes =
-          earlier_is (def_kind s.by_tag_name) s.archive.now (option_copied s.key) s.last
+          earlier_is (def_kind s.by_tag_name) s.archive.now s.asked s.last
           e seen before is passes
       by_test false fails =
           is ∙ ap first_of (not_to_come (def_kind s.by_tag_name) s.archive.now
-          (option_copied s.key) s.last e seen fails)
+          s.asked s.last e seen fails)
 
   all_seen : (before : Option Entry) (seen es : List Entry) → before ≡ first_of (Come seen)
       → first_among s before es ≡ first_of (Come (seen ++ es))
@@ -365,11 +366,11 @@ module _ (s : DefSearch) where
   among_all es = all_seen None [] es refl
 
 -- a search of files whose names ascend goes on
-pub goes_on : (by : Bool) (a : Archived) (key : Option (List ℕ)) (shown : List Shown)
+pub goes_on : (by : Bool) (a : Archived) (asked : Asked) (shown : List Shown)
     → AreAscending a shown
-    → GoesOn (def_kind by) a key (all_entries (lister_of (def_kind by)) a shown)
-goes_on by a key shown up last e is =
+    → GoesOn (def_kind by) a asked (all_entries (lister_of (def_kind by)) a shown)
+goes_on by a asked shown up last e is =
     let all = all_entries (lister_of (def_kind by)) a shown in
-    next_to_come (def_kind by) a key all
+    next_to_come (def_kind by) a asked all
     (ordered_less (ComesFirst a) Differ (come_differ a) all
     (all_ordered a (lister_of (def_kind by)) (rising_defs by) shown up)) last e is

@@ -21,7 +21,7 @@ use Rattle.cb_tags.specs.TagNames.{base_name, tag_name, without_c}
 use Rattle.cb_index.specs.Scanned.{Scanned, facts_of}
 use Rattle.cb_index.specs.Archived.{Archived, AreBytes, name_of, scanned_in, text_at}
 use Rattle.cb_index.specs.Bytes.{bytes_at, cut}
-use Rattle.cb_index.specs.Entries.{Keyer, has_key, key_of}
+use Rattle.cb_index.specs.Entries.{Keyer, has_key, key_cmp, key_of}
 use Rattle.cb_index.specs.Held.{Lister, all_entries, entries_of, entry_of}
 use Rattle.cb_index.specs.Orders.{def_key, def_prefix, defs_listed, numbered, tag_front, tag_key}
 use Rattle.cb_index.specs.Orders.{tag_prefix, tags_listed}
@@ -191,6 +191,15 @@ key_decides front keyer a key e told = by_key (bytes_eq key (key_of keyer a e)) 
     by_key false is =
         elim (nat_eq (key_prefix (front key)) e.prefix) as (λ b. (b && false) ≡ false)
         [ true ↦ refl | false ↦ refl ]
+
+-- a key is compared with that of such an entry as without prefixes
+pub key_compared : (front : List ℕ → List ℕ) → GoesFirst front → (keyer : Keyer) (a : Archived)
+    (key : List ℕ) → AreBytes (front key) → (e : Entry) → HasPrefix front keyer a e
+    → key_cmp keyer a (key_prefix (front key)) key e ≡ slice_cmp nat_cmp key (key_of keyer a e)
+key_compared front first keyer a key bytes e told =
+    (λ i. ordering_then (nat_cmp (key_prefix (front key)) (told.0 i))
+    (slice_cmp nat_cmp key (key_of keyer a e)))
+    ∙ prefixes_first front first key (key_of keyer a e) bytes told.1
 
 -- ---- an order in which an entry is a definition
 pub record IsTold (front : List ℕ → List ℕ) (keyer : Keyer)

@@ -20,7 +20,8 @@ use Rattle.cb_scan.proofs.KeyOrder.{then_assoc}
 use Rattle.cb_scan.proofs.OrderLemmas.{Sorted, first_trans, goes_itself, in_order_sorted}
 use Rattle.cb_index.specs.Blocks.{AreParted}
 use Rattle.cb_index.specs.Archived.{Archived}
-use Rattle.cb_index.specs.Entries.{Keyer, file_key, has_key, key_cmp, key_of, sort_key}
+use Rattle.cb_index.specs.Entries.{Keyer, file_key, has_key, has_key_from, key_cmp, key_of}
+use Rattle.cb_index.specs.Entries.{sort_key}
 use Rattle.cb_index.specs.steps.Bounds.{is_ahead}
 use Rattle.cb_index.specs.declared.entry.Entry.{Entry}
 use Rattle.cb_index.specs.declared.bound.Side.{Side}
@@ -269,3 +270,33 @@ module _ (keyer : Keyer) (a : Archived) (prefix : ℕ) (key : Bor (List ℕ)) wh
   unfolding is_ahead
   key_between m n es above low mid high =
       between_is keyer a prefix key.now m n es above low mid high
+
+-- ---- the entries whose keys are not less stand behind the bound before the key
+module _ (keyer : Keyer) (a : Archived) (prefix : ℕ) (key : List ℕ) where
+  all_from : (es : List Entry)
+      → AllByRecursion (λ e. is_gt (key_cmp keyer a prefix key e) ≡ false) es
+      → es ≡ filter (has_key_from keyer a prefix key) es
+  all_from [] low = refl
+  all_from (e ∷ es) low =
+      ap (λ l. e ∷ l) (all_from es low.1)
+      ∙ sym (ap (λ b. cond (not b) (e ∷ filter (has_key_from keyer a prefix key) es)
+      (filter (has_key_from keyer a prefix key) es)) low.0)
+
+  pub behind_is : (n : ℕ) (es : List Entry)
+      → AllByRecursion (λ e. is_gt (key_cmp keyer a prefix key e) ≡ true) (take n es)
+      → AllByRecursion (λ e. is_gt (key_cmp keyer a prefix key e) ≡ false) (drop n es)
+      → drop n es ≡ filter (has_key_from keyer a prefix key) es
+  behind_is zero es above low = all_from es low
+  behind_is (suc n) [] above low = refl
+  behind_is (suc n) (e ∷ es) above low =
+      behind_is n es above.1 low
+      ∙ sym (ap (λ b. cond (not b) (e ∷ filter (has_key_from keyer a prefix key) es)
+      (filter (has_key_from keyer a prefix key) es)) above.0)
+
+module _ (keyer : Keyer) (a : Archived) (prefix : ℕ) (key : Bor (List ℕ)) where
+  pub key_behind : (n : ℕ) (es : List Entry)
+      → AllByRecursion (λ e. is_ahead keyer a (Before prefix key) e ≡ true) (take n es)
+      → AllByRecursion (λ e. is_ahead keyer a (Before prefix key) e ≡ false) (drop n es)
+      → drop n es ≡ filter (has_key_from keyer a prefix key.now) es
+  unfolding is_ahead
+  key_behind n es above low = behind_is keyer a prefix key.now n es above low

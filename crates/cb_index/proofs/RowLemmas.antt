@@ -23,7 +23,7 @@ use Rattle.cb_scan.specs.Definitions.{IsTagWithin, IsWithin}
 use Rattle.cb_scan.specs.Keys.{key_prefix}
 use Rattle.cb_scan.specs.lex.Tokens.{bytes_of}
 use Rattle.cb_scan.specs.Order.{AreOrdered, goes_first, in_order}
-use Rattle.cb_scan.proofs.FactsWithin.{facts_lie}
+use Rattle.cb_scan.proofs.FactsWithin.{all_in_order, facts_lie}
 use Rattle.cb_scan.proofs.KeyOrder.{then_assoc}
 use Rattle.cb_scan.proofs.OrderLemmas.{in_order_sum}
 use Rattle.cb_tags.specs.TagLines.{Tag}
@@ -31,13 +31,13 @@ use Rattle.cb_tags.specs.TagNames.{tag_name}
 use Rattle.cb_index.specs.Scanned.{Scanned, facts_of}
 use Rattle.cb_index.specs.Archived.{Archived, AreBytes, name_of, text_at, text_of}
 use Rattle.cb_index.specs.Bytes.{bytes_at, cut}
-use Rattle.cb_index.specs.Entries.{Keyer, file_key, has_key, key_of, sort_key}
+use Rattle.cb_index.specs.Entries.{Keyer, file_key, has_key, has_key_from, key_of, sort_key}
 use Rattle.cb_index.specs.Files.{AreAscending, File, IsThere, file_of, files_of}
 use Rattle.cb_index.specs.Held.{AreRising, Lister, all_entries, entries_of, entry_of}
 use Rattle.cb_index.specs.Orders.{def_key, def_prefix, defs_listed, numbered, tag_front, tag_key}
 use Rattle.cb_index.specs.Orders.{tag_prefix, tags_listed}
 use Rattle.cb_index.specs.Rows.{file_tags, file_tags_named, tag_in, tags_by_name, tags_by_tag_name}
-use Rattle.cb_index.specs.Rows.{scope_in, tags_named}
+use Rattle.cb_index.specs.Rows.{is_named_from, scope_in, tags_from_name, tags_named}
 use Rattle.cb_index.specs.Shelved.{IsIndexOf, with_facts}
 use Rattle.cb_index.specs.steps.Found.{scope_cut, tag_at, tag_in_text, tag_of_def}
 use Rattle.cb_index.specs.steps.Left.{entries_in, file_or_end}
@@ -46,7 +46,8 @@ use Rattle.cb_index.specs.declared.entry.Shown.{Shown}
 use Rattle.cb_index.proofs.EntryLemmas.{bytes_cmp, sort_exact}
 use Rattle.cb_index.proofs.InOrderLemmas.{filter_kept, in_order_agree, map_in_order, same_order}
 use Rattle.cb_index.proofs.IndexLemmas.{ComesFirst, all_ordered}
-use Rattle.cb_index.proofs.PrefixLemmas.{GoesFirst, HasPrefix, defs_told, entry_told, key_decides}
+use Rattle.cb_index.proofs.PrefixLemmas.{GoesFirst, HasPrefix, defs_told, entry_told}
+use Rattle.cb_index.proofs.PrefixLemmas.{key_compared, key_decides}
 use Rattle.cb_index.proofs.PrefixLemmas.{names_told, prefixes_first, tag_front_first}
 use Rattle.cb_index.proofs.PrefixLemmas.{tag_names_told, whole_first}
 use Rattle.cb_index.proofs.RestLemmas.{at_front, drop_next}
@@ -285,6 +286,21 @@ module _ (a : Archived) (s : Shown) (text : Scanned)
       (filter (λ (x : Def). bytes_eq name (bytes_of text.bytes x.name)) defs)
       (tag_is (def_prefix text.bytes d) n d defs is within.0 tagged.0) later
 
+-- those that are kept before and after
+module _ {X Y : Type 0} (f : X → Y) (p : X → Bool) (q : Y → Bool) (P : X → Type 0)
+    (same : (x : X) → P x → p x ≡ q (f x)) where
+  kept_alike : (xs : List X) → AllByRecursion P xs → map f (filter p xs) ≡ filter q (map f xs)
+  kept_alike [] all = refl
+  kept_alike (x ∷ xs) all =
+      ap (λ b. map f (cond b (x ∷ filter p xs) (filter p xs))) (same x all.0)
+      ∙ by_test (q (f x)) (kept_alike xs all.1)
+    where
+      by_test : (b : Bool) → map f (filter p xs) ≡ filter q (map f xs)
+          → map f (cond b (x ∷ filter p xs) (filter p xs))
+          ≡ cond b (f x ∷ filter q (map f xs)) (filter q (map f xs))
+      by_test true later = ap (λ l. f x ∷ l) later
+      by_test false later = later
+
 module _ (a : Archived) where
   all_tags : (lister : Lister) (prefixed : List ℕ → Def → ℕ)
       → ((text : Scanned)
@@ -339,6 +355,22 @@ module _ (a : Archived) where
           (all_entries defs_listed a shown))
           ∙ ap (in_order (λ (t : Tag). t.name))
           (all_tags defs_listed def_prefix (λ text. refl) shown all)
+
+      pub rows_from_name : (name : List ℕ) → AreBytes name
+          → IsIndexOf def_key defs_listed a shown es
+          → map (tag_at a) (filter (has_key_from def_key a (key_prefix name) name) es)
+          ≡ tags_from_name a.profile name (files_of a shown)
+      unfolding tags_from_name
+      rows_from_name name in_name is =
+          kept_alike (tag_at a) (has_key_from def_key a (key_prefix name) name)
+          (is_named_from name) (HasPrefix (λ key. key) def_key a)
+          (λ e told. ap (λ o. not (is_gt o))
+          (key_compared (λ key. key) whole_first def_key a name in_name e told
+          ∙ ap (slice_cmp nat_cmp name) (key_is_name a e))) es
+          (subst (AllByRecursion (HasPrefix (λ key. key) def_key a)) (sym is)
+          (all_in_order (sort_key def_key a) (HasPrefix (λ key. key) def_key a)
+          (all_entries defs_listed a shown) (defs_told a bytes shown)))
+          ∙ ap (filter (is_named_from name)) (rows_by_name is)
 
       pub rows_by_tag_name : IsIndexOf tag_key tags_listed a shown es
           → map (tag_at a) es ≡ tags_by_tag_name a.profile (files_of a shown)

@@ -8,7 +8,7 @@ use Rattle.std.proofs.Math.Nat.{min-le_left, min-le_right}
 use Rattle.std.proofs.Math.Seq.{drop-append-add}
 use Rattle.std.specs.Prelude.{min}
 use Rattle.cb_index.specs.Blocks.{before, joined}
-use Rattle.cb_index.proofs.BlockLemmas.{Lists, front_at, parted_at}
+use Rattle.cb_index.proofs.BlockLemmas.{Lists, back_at, front_at, parted_at}
 
 -- a place in an earlier block
 before_le : {T : Type 0} (bs : Lists T) (k j m i : ℕ) → k < m → k < length bs → j ≤ length (get_or bs k [])
@@ -83,6 +83,24 @@ across_between bs k f m t less low inner within =
     ∙ ap (drop (before bs k f)) (sym (append_assoc front (block ++ middle) last))
     ∙ ap (λ l. drop (before bs k f) (l ++ last)) (sym whole)
     ∙ ap (drop (before bs k f)) (sym (front_at bs m t low within))
+
+-- from a place on
+pub from_place : {T : Type 0} (bs : Lists T) (k f : ℕ) → k < length bs
+    → f ≤ length (get_or bs k [])
+    → drop f (get_or bs k []) ++ (joined (drop (k + 1) bs) ++ [])
+    ≡ drop (before bs k f) (joined bs)
+from_place bs k f low within =
+    let next : k + 1 ≡ suc k = omega arith in
+    ap (λ l. drop f (get_or bs k []) ++ l) (append-nil (joined (drop (k + 1) bs)))
+    ∙ ap (λ n. drop f (get_or bs k []) ++ joined (drop n bs)) next
+    ∙ sym (back_at bs k f low within)
+
+pub rest_fits : {T : Type 0} (m : ℕ) (es xs : List T) (most : ℕ) → xs ≡ drop m es
+    → length es < most → length xs < most
+rest_fits m es xs most is fits =
+    let size : length xs ≡ length (drop m es) = ap length is in
+    let dropped = length-drop m es in
+    omega (arith, size, dropped, fits)
 
 -- no more entries than all
 pub between_fits : {T : Type 0} (m n : ℕ) (es xs : List T) (most : ℕ) → xs ≡ drop m (take n es)

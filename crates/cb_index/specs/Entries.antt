@@ -1,7 +1,7 @@
 -- Entries and their order.
-use Rattle.std.specs.Prelude.{ℕ, suc, Bool, ◌&&◌, nat_eq, List, [], ◌∷◌, ◌++◌, map, Option}
+use Rattle.std.specs.Prelude.{ℕ, suc, Bool, ◌&&◌, not, nat_eq, List, [], ◌∷◌, ◌++◌, map, Option}
 use Rattle.std.specs.Cmp.Lexicographic.{slice_cmp}
-use Rattle.std.specs.Ordering.{nat_cmp, ordering_then}
+use Rattle.std.specs.Ordering.{is_gt, nat_cmp, ordering_then}
 use Rattle.std.specs.Str.{bytes_eq}
 use Rattle.std.specs.declared.cmp.Ordering.{Ordering}
 use Rattle.cb_index.specs.Archived.{Archived, name_of, text_at}
@@ -42,6 +42,10 @@ key_cmp keyer a prefix key e =
 -- whether an entry has the key
 abbrev pub has_key : Keyer → Archived → ℕ → List ℕ → Entry → Bool
 has_key keyer a prefix key e = nat_eq prefix e.prefix && bytes_eq key (key_of keyer a e)
+
+-- whether the key of an entry is not less than a key with its prefix
+abbrev pub has_key_from : Keyer → Archived → ℕ → List ℕ → Entry → Bool
+has_key_from keyer a prefix key e = not (is_gt (key_cmp keyer a prefix key e))
 
 -- whether an entry is one of the version under the name
 abbrev pub is_of : ℕ → ℕ → Entry → Bool

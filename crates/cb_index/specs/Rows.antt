@@ -1,7 +1,9 @@
 -- The rows of files, by the profile that finds them.
-use Rattle.std.specs.Prelude.{ℕ, List, Option, Some, map, filter}
+use Rattle.std.specs.Prelude.{ℕ, Bool, not, List, Option, Some, map, filter}
+use Rattle.std.specs.Cmp.Lexicographic.{slice_cmp}
 use Rattle.std.specs.List.{flat_map}
 use Rattle.std.specs.Option.{option_map}
+use Rattle.std.specs.Ordering.{is_gt, nat_cmp}
 use Rattle.std.specs.Str.{bytes_eq}
 use Rattle.cb_scan.specs.declared.facts.Call.{Call}
 use Rattle.cb_scan.specs.declared.facts.Def.{Def}
@@ -66,6 +68,14 @@ tags_named p name fs = flat_map (file_tags_named p name) fs
 -- all tags by name, and those of one name by file and place
 unfoldable pub tags_by_name : Profile → List File → List Tag
 tags_by_name p fs = in_order (λ (t : Tag). t.name) (flat_map (file_tags p) fs)
+
+-- the name of a tag is not less than a name, in the order of their bytes
+abbrev pub is_named_from : List ℕ → Tag → Bool
+is_named_from name t = not (is_gt (slice_cmp nat_cmp name t.name))
+
+-- the tags whose names are not less than a name, in the order of all tags by name
+unfoldable pub tags_from_name : Profile → List ℕ → List File → List Tag
+tags_from_name p name fs = filter (is_named_from name) (tags_by_name p fs)
 
 -- all tags by the name that a plain tags file has for them, and those of one such name by file and
 -- place

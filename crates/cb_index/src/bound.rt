@@ -31,7 +31,7 @@ pub(crate) struct EntryBound<'a, 'k> {
 }
 
 /// A key with its prefix against an entry.
-fn compare_key(
+pub(crate) fn compare_key(
     kind: IndexKind,
     archive: &Archive,
     prefix: u64,

@@ -11,16 +11,18 @@ ghost use Rattle.std.specs.Prelude.{
   length,
   MatchOption,
 };
-ghost use Rattle.std.specs.Option.{option_copied};
+ghost use Rattle.cb_index.specs.Entries.{has_key};
 ghost use Rattle.cb_index.specs.Files.{AreAscending};
 ghost use Rattle.cb_index.specs.Held.{all_entries, entries_of};
-ghost use Rattle.cb_index.specs.Kinds.{def_kind, keyer_of, lister_of};
+ghost use Rattle.cb_index.specs.Kinds.{def_kind, keyer_of, lister_of, prefix_of};
 ghost use Rattle.cb_index.specs.declared.entry.Entry.{Entry};
 ghost use Rattle.cb_index.specs.steps.ShownIn.{shown_in};
 ghost use Rattle.cb_index.specs.steps.ToCome.{GoesOn, earlier, first_of, is_asked, is_later};
 ghost use Rattle.cb_index.specs.steps.ToCome.{to_come};
 
 use crate::archive::Archive;
+use crate::asked::Asked;
+use crate::bound::compare_key;
 use crate::entry::{Entry, Shown};
 use crate::kind::IndexKind;
 use crate::order::compare;
@@ -39,16 +41,16 @@ pub(crate) fn def_kind(by_tag_name: bool) -> IndexKind
     }
 }
 
-/// The definitions of files that are still to come, in order: those that have the key, if one is
-/// asked for. To give one takes a search of all.
+/// The definitions of files that are still to come, in order, of those that are asked for. To give
+/// one takes a search of all.
 #[derive(Clone, Copy)]
 pub(crate) struct DefSearch<'a, 'p> {
     by_tag_name: bool,
     archive: &'a Archive,
     shown: ShownFiles<'a>,
-    key: Option<&'p [u8]>,
+    asked: Asked<'p>,
     last: Option<Entry>,
-    ghost goes_on: { GoesOn (def_kind by_tag_name) archive.now (option_copied key)
+    ghost goes_on: { GoesOn (def_kind by_tag_name) archive.now asked
         (all_entries (lister_of (def_kind by_tag_name)) archive.now (shown_in shown)) },
     ghost few: { length (all_entries (lister_of (def_kind by_tag_name)) archive.now
         (shown_in shown)) < 2 ^ 64 },
@@ -64,16 +66,25 @@ fn is_later(kind: IndexKind, archive: &Archive, last: Option<Entry>, entry: Entr
     }
 }
 
-/// Whether an entry has the key, if one is asked for.
-fn is_asked(kind: IndexKind, archive: &Archive, key: Option<&[u8]>, entry: Entry) -> bool
-    ensures { result ≡ is_asked kind archive.now (option_copied key.entry) entry }
+/// Whether an entry has a key.
+fn has_key(kind: IndexKind, archive: &Archive, key: &[u8], entry: Entry) -> bool
+    ensures { result ≡ has_key (keyer_of kind) archive.now (prefix_of kind key.now) key.now entry }
 {
-    match key {
-        Some(key) => {
-            prefix(kind, key) == entry.prefix
-                && compare_key_bytes(kind, archive, key, entry) == Ordering::Equal
+    prefix(kind, key) == entry.prefix
+        && compare_key_bytes(kind, archive, key, entry) == Ordering::Equal
+}
+
+/// Whether an entry is asked for.
+fn is_asked(kind: IndexKind, archive: &Archive, asked: Asked<'_>, entry: Entry) -> bool
+    ensures { result ≡ is_asked kind archive.now asked.entry entry }
+{
+    match asked {
+        Asked::Every => true,
+        Asked::OfKey(key) => has_key(kind, archive, key, entry),
+        Asked::FromKey(key) => {
+            let prefix = prefix(kind, key);
+            compare_key(kind, archive, prefix, key, entry) != Ordering::Greater
         }
-        None => true,
     }
 }
 
@@ -90,25 +101,24 @@ fn earlier(kind: IndexKind, archive: &Archive, before: Option<Entry>, entry: Ent
 impl<'a, 'p> DefSearch<'a, 'p> {
     ghost use Rattle.cb_index.specs.steps.DefSearch.{earlier_of, first_among, search_left};
 
-    /// All definitions of files, whose names ascend: those that have the key, if one is asked for.
+    /// The definitions of files, whose names ascend, that are asked for.
     pub(crate) fn new(
         by_tag_name: bool,
         archive: &'a Archive,
         shown: ShownFiles<'a>,
-        key: Option<&'p [u8]>,
+        asked: Asked<'p>,
     ) -> DefSearch<'a, 'p>
         requires ascending { AreAscending archive.now (shown_in shown) }
         requires few { length (all_entries (lister_of (def_kind by_tag_name)) archive.now
             (shown_in shown)) < 2 ^ 64 }
-        ensures { search_left result ≡ to_come (def_kind by_tag_name) archive.now
-            (option_copied key.entry) None
+        ensures { search_left result ≡ to_come (def_kind by_tag_name) archive.now asked.entry None
             (all_entries (lister_of (def_kind by_tag_name)) archive.now (shown_in shown.entry)) }
     {
         DefSearch {
             by_tag_name,
             archive,
             shown,
-            key,
+            asked,
             last: None,
         }
     }
@@ -119,7 +129,7 @@ impl<'a, 'p> DefSearch<'a, 'p> {
     {
         let kind = def_kind(self.by_tag_name);
         if !is_later(kind, self.archive, self.last, entry)
-            || !is_asked(kind, self.archive, self.key, entry)
+            || !is_asked(kind, self.archive, self.asked, entry)
         {
             return before;
         }

@@ -14,7 +14,6 @@ ghost use Rattle.std.specs.Prelude.{
   OnOk,
 };
 ghost use Rattle.std.specs.List.{AllByRecursion};
-ghost use Rattle.std.specs.Option.{option_copied};
 ghost use Rattle.std.specs.List.Sorted.{IsStrictlyIncreasing};
 ghost use Rattle.cb_scan.specs.Order.{in_order};
 ghost use Rattle.cb_index.specs.Entries.{sort_key};
@@ -37,6 +36,7 @@ ghost use Rattle.cb_index.specs.steps.Runs.{run_items};
 ghost use Rattle.cb_index.specs.steps.ToCome.{is_asked};
 
 use crate::archive::Archive;
+use crate::asked::Asked;
 use crate::entry::{Entry, Shown};
 use crate::kind::{FactKind, IndexKind};
 use crate::listed::place_of;
@@ -198,16 +198,17 @@ impl Index {
         self.pending.clear();
     }
 
-    /// The entries that are held, in order: those that have the key, if one is asked for.
-    pub(crate) fn asked(&self, archive: &Archive, key: Option<&[u8]>) -> Run<'_, Entry>
+    /// The entries that are held, in order: those that are asked for.
+    pub(crate) fn asked(&self, archive: &Archive, asked: Asked<'_>) -> Run<'_, Entry>
         requires { self.now.held
             ≡ in_order (sort_key (keyer_of self.now.kind) archive.now) self.now.held }
         ensures { run_items result
-            ≡ filter (is_asked self.now.kind archive.now (option_copied key.entry)) self.now.held }
+            ≡ filter (is_asked self.now.kind archive.now asked.entry) self.now.held }
     {
-        match key {
-            Some(key) => self.postings.with_key(self.kind, archive, key),
-            None => self.postings.entries(),
+        match asked {
+            Asked::Every => self.postings.entries(),
+            Asked::OfKey(key) => self.postings.with_key(self.kind, archive, key),
+            Asked::FromKey(key) => self.postings.from_key(self.kind, archive, key),
         }
     }
 }

@@ -27,6 +27,7 @@ mod totals;
 
 // An index of one kind: its entries in order, the versions that are pending, and the search that
 // answers until they are in order.
+mod asked;
 mod bound;
 mod def_search;
 mod entry;

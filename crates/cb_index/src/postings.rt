@@ -21,7 +21,7 @@ ghost use Rattle.std.specs.Ordering.{nat_cmp};
 ghost use Rattle.std.specs.List.Sorted.{IsStrictlyIncreasing};
 ghost use Rattle.cb_scan.specs.Order.{goes_first, in_order};
 ghost use Rattle.cb_index.specs.Blocks.{joined};
-ghost use Rattle.cb_index.specs.Entries.{has_key, sort_key};
+ghost use Rattle.cb_index.specs.Entries.{has_key, has_key_from, sort_key};
 ghost use Rattle.cb_index.specs.Kinds.{keyer_of, lister_of, prefix_of};
 ghost use Rattle.cb_index.specs.Held.{all_entries, entries_of, listed_of};
 ghost use Rattle.cb_index.specs.Names.{is_among, names_of};
@@ -417,5 +417,24 @@ impl Postings {
         let from = place_of(&before, blocks);
         let to = place_of(&after, blocks);
         Run::between(blocks, from, to)
+    }
+
+    /// The entries whose keys are not less than this one, in order.
+    pub(crate) fn from_key(&self, kind: IndexKind, archive: &Archive, key: &[u8]) -> Run<'_, Entry>
+        requires { self.now.entries
+            ≡ in_order (sort_key (keyer_of kind) archive.now) self.now.entries }
+        ensures { run_items result
+            ≡ filter (has_key_from (keyer_of kind) archive.now (prefix_of kind key.now) key.now)
+            self.now.entries }
+    {
+        let _room = self.scratch.capacity();
+        let prefix = prefix(kind, key);
+        let blocks = self.blocks.used();
+        let before = EntryBound {
+            kind,
+            archive,
+            side: Side::Before(prefix, key),
+        };
+        Run::after(blocks, place_of(&before, blocks))
     }
 }

@@ -90,6 +90,21 @@ impl<'a, T: Copy> Run<'a, T> {
         Run::parts(first, whole, last)
     }
 
+    /// The elements from a place on.
+    pub(crate) fn after(blocks: &'a [Block<T>], from: Place) -> Run<'a, T>
+        requires fits { length (joined blocks.now) < 2 ^ 64 }
+        requires from { IsPlace blocks.now from.block from.at }
+        ensures { run_items result
+            ≡ drop (before blocks.now from.block from.at) (joined blocks.now) }
+    {
+        if blocks.is_empty() {
+            return Run::whole(blocks);
+        }
+        let first = blocks[from.block].items().split_at(from.at).1;
+        let whole = blocks.split_at(from.block + 1).1;
+        Run::parts(first, whole, &[])
+    }
+
     /// The first element, and the others.
     pub(crate) fn split_first(self) -> Option<(&'a T, Run<'a, T>)>
         ensures { MatchOption result (run_items self.entry ≡ [])

@@ -26,7 +26,6 @@ ghost use Rattle.std.specs.Prelude.{
   OnOk,
 };
 ghost use Rattle.std.specs.List.{AllByRecursion, list_any, swap_remove};
-ghost use Rattle.std.specs.Option.{option_copied};
 ghost use Rattle.std.specs.List.Sorted.{IsStrictlyIncreasing};
 ghost use Rattle.std.specs.Cmp.Lexicographic.{slice_cmp};
 ghost use Rattle.std.specs.Ordering.{is_gt, nat_cmp};
@@ -44,6 +43,7 @@ ghost use Rattle.cb_index.specs.Rows.{
   file_facts,
   tags_by_name,
   tags_by_tag_name,
+  tags_from_name,
   tags_named,
   uses_of,
 };
@@ -66,6 +66,8 @@ ghost use Rattle.cb_index.specs.steps.Left.{tags_left};
 ghost use Rattle.cb_index.specs.steps.ShownIn.{shown_in};
 
 use crate::archive::{Archive, Version};
+use crate::asked::Asked;
+use crate::bytes::read_bytes;
 use crate::def_search::{DefSearch, def_kind};
 use crate::entries::Entries;
 use crate::entry::Shown;
@@ -523,11 +525,11 @@ impl Shelf {
         &self.indexes[place_of(kind)]
     }
 
-    /// Definitions by tag name, or by name: those that have the key, if one is asked for. They are
-    /// looked up in the index, or searched in the files where some are pending.
-    fn in_order<'a, 'p>(&'a self, by_tag_name: bool, key: Option<&'p [u8]>) -> TagRows<'a, 'p>
+    /// Definitions by tag name, or by name: those that are asked for. They are looked up in the
+    /// index, or searched in the files where some are pending.
+    fn in_order<'a, 'p>(&'a self, by_tag_name: bool, asked: Asked<'p>) -> TagRows<'a, 'p>
         ensures tags { tags_left result ≡ asked_tags (def_kind by_tag_name) self.now.archive
-            (option_copied key.entry) self.now.shown }
+            asked.entry self.now.shown }
         ensures there { AllByRecursion (IsThere self.now.archive) self.now.shown }
         ensures ascending { AreAscending self.now.archive self.now.shown }
         ensures bytes { AllByRecursion AreBytes self.now.archive.texts }
@@ -539,12 +541,12 @@ impl Shelf {
             let shown = self.shown.files();
             return TagRows {
                 archive: &self.archive,
-                defs: Defs::Searched(DefSearch::new(by_tag_name, &self.archive, shown, key)),
+                defs: Defs::Searched(DefSearch::new(by_tag_name, &self.archive, shown, asked)),
             };
         }
         TagRows {
             archive: &self.archive,
-            defs: Defs::Indexed(index.asked(&self.archive, key)),
+            defs: Defs::Indexed(index.asked(&self.archive, asked)),
         }
     }
 
@@ -552,21 +554,30 @@ impl Shelf {
     pub fn defs<'a, 'p>(&'a self, name: &'p [u8]) -> TagRows<'a, 'p>
         ensures { tags_left result ≡ tags_named self.now.archive.profile name.now (files self.now) }
     {
-        self.in_order(false, Some(name))
+        self.in_order(false, Asked::OfKey(name))
+    }
+
+    /// The definitions whose names are not less than a name in the order of their bytes, by name.
+    pub fn defs_from<'a, 'p>(&'a self, name: &'p [u8]) -> TagRows<'a, 'p>
+        ensures { tags_left result
+            ≡ tags_from_name self.now.archive.profile name.now (files self.now) }
+    {
+        read_bytes(name);
+        self.in_order(false, Asked::FromKey(name))
     }
 
     /// All definitions, by name.
     pub fn all_defs(&self) -> TagRows<'_, '_>
         ensures { tags_left result ≡ tags_by_name self.now.archive.profile (files self.now) }
     {
-        self.in_order(false, None)
+        self.in_order(false, Asked::Every)
     }
 
     /// All definitions, by the names that a plain tags file has for them.
     pub fn tags(&self) -> TagRows<'_, '_>
         ensures { tags_left result ≡ tags_by_tag_name self.now.archive.profile (files self.now) }
     {
-        self.in_order(true, None)
+        self.in_order(true, Asked::Every)
     }
 
     /// The uses or calls of a kind that have a key, by file and place. They are looked up in the
@@ -581,7 +592,11 @@ impl Shelf {
     {
         let index = self.index(IndexKind::Facts(kind));
         if index.is_flushed() {
-            return FactRows::held(kind, &self.archive, index.asked(&self.archive, Some(key)));
+            return FactRows::held(
+                kind,
+                &self.archive,
+                index.asked(&self.archive, Asked::OfKey(key)),
+            );
         }
         FactRows::searched(kind, &self.archive, key, self.shown.files())
     }

@@ -3,6 +3,7 @@ ghost use Rattle.std.specs.Prelude.{◌≡◌, length};
 ghost use Rattle.std.specs.Iterator.{YieldsFirstBy, item_count};
 ghost use Rattle.std.specs.List.{flat_map};
 ghost use Rattle.cb_scan.specs.Order.{in_order};
+ghost use Rattle.cb_index.specs.Rows.{tags_from_name};
 ghost use Rattle.cb_index.specs.Shelved.{files};
 ghost use Rattle.cb_index.specs.steps.Left.{tag_of_spot};
 ghost use Rattle.cb_tags.specs.TagLines.{tag_of};
@@ -74,5 +75,14 @@ pub(crate) fn tag_rows(shelf: &Shelf, format: Format) -> TagRows<'_>
         Format::Extended => TagRows {
             rest: shelf.all_defs(),
         },
+    }
+}
+
+/// The definitions whose names are not less than a name, by name.
+pub(crate) fn tag_rows_from<'a>(shelf: &'a Shelf, name: &'a [u8]) -> TagRows<'a>
+    ensures { result ≡ tags_from_name shelf.now.archive.profile name.now (files shelf.now) }
+{
+    TagRows {
+        rest: shelf.defs_from(name),
     }
 }

@@ -2,7 +2,7 @@
 ghost use Rattle.std.specs.Prelude.{◌≡◌, ◌≢◌, [], map};
 ghost use Rattle.std.specs.Option.{option_copied, option_map};
 ghost use Rattle.cb_index.specs.Files.{files_of};
-ghost use Rattle.cb_index.specs.Rows.{calls_in, calls_of, tags_named, uses_of};
+ghost use Rattle.cb_index.specs.Rows.{calls_in, calls_of, tags_from_name, tags_named, uses_of};
 ghost use Rattle.cb_desk.specs.Answer.{answer};
 ghost use Rattle.cb_desk.specs.Models.{scanned_of};
 ghost use Rattle.cb_desk.specs.Scanned.{scanned_named};
@@ -10,7 +10,9 @@ ghost use Rattle.cb_desk.specs.Tags.{tags};
 ghost use Rattle.cb_desk.specs.World.{AreValidFiles, text_named, widest_bounds};
 ghost use Rattle.cb_desk.specs.steps.Records.{place_in, world_in};
 
-use crate::answers::{Definitions, Files, Rows, TagRows, Uses, scanned, source, tag_rows};
+use crate::answers::{
+    Definitions, Files, Rows, TagRows, Uses, scanned, source, tag_rows, tag_rows_from,
+};
 use crate::places::Places;
 use crate::present::Present;
 use crate::rows::Field;
@@ -120,5 +122,13 @@ impl Present {
         ensures { result ≡ tags format (world_in self.now.archive self.now.now) }
     {
         tag_rows(&self.shelf, format)
+    }
+
+    /// The definitions whose names are not less than a name, by name.
+    pub(crate) fn tag_rows_from<'a>(&'a self, name: &'a [u8]) -> TagRows<'a>
+        ensures { result ≡ tags_from_name self.now.archive.profile name.now
+            (files_of self.now.archive self.now.now.shown) }
+    {
+        tag_rows_from(&self.shelf, name)
     }
 }

@@ -1,6 +1,5 @@
 -- Definitions that are found by a search of all files, one after another.
 use Rattle.std.specs.Prelude.{List, [], ◌∷◌, Option, Some, if◌then◌else◌}
-use Rattle.std.specs.Option.{option_copied}
 use Rattle.cb_index.specs.Held.{all_entries}
 use Rattle.cb_index.specs.Kinds.{def_kind, keyer_of, lister_of}
 use Rattle.cb_index.specs.steps.ShownIn.{shown_in}
@@ -11,7 +10,7 @@ use Rattle.cb_index.specs.declared.entry.Entry.{Entry}
 -- the definitions that a search is still to give
 abbrev pub search_left : DefSearch → List Entry
 search_left s =
-    to_come (def_kind s.by_tag_name) s.archive.now (option_copied s.key) s.last
+    to_come (def_kind s.by_tag_name) s.archive.now s.asked s.last
     (all_entries (lister_of (def_kind s.by_tag_name)) s.archive.now (shown_in s.shown))
 
 -- ---- how the first of them is found
@@ -19,7 +18,7 @@ search_left s =
 -- of an entry, if it is still to come, and of one before it, the first
 abbrev pub earlier_of : DefSearch → Option Entry → Entry → Option Entry
 earlier_of s before e =
-    if is_to_come (def_kind s.by_tag_name) s.archive.now (option_copied s.key) s.last e
+    if is_to_come (def_kind s.by_tag_name) s.archive.now s.asked s.last e
     then Some (earlier (keyer_of (def_kind s.by_tag_name)) s.archive.now before e) else before
 
 -- of entries that are still to come and of one before them, the first

@@ -1,6 +1,6 @@
-//! The definitions of a name, and what is found in one file.
+//! The definitions of a name and of those behind it, and what is found in one file.
 use super::meters::load;
-use cb_desk::{Bounds, Desk, Field, Refusal};
+use cb_desk::{Bounds, Desk, Field, Format, Refusal};
 use cb_scan::{Include, Kind, Profile, Rules, Span};
 use std::alloc::Global;
 use std::process::Abort;
@@ -47,6 +47,50 @@ fn definitions_of_a_name_come_by_file_and_place(rt: HostRuntime) -> Result<(), R
     come_in_order(&rt, &desk);
     desk.settle(Field::Definition);
     come_in_order(&rt, &desk);
+    Ok(())
+}
+
+/// The names of the definitions from a name on, each with the file that it stands in.
+fn come_from(rt: &impl Abort, desk: &Desk, name: &[u8], found: &[(&[u8], &[u8])]) {
+    let mut rows = desk.tag_rows_from(name);
+    for (name, file) in found {
+        match rows.next() {
+            Some(row) => assert!(rt; row.name == *name && row.file == *file),
+            None => assert!(rt; false),
+        }
+    }
+    assert!(rt; rows.next().is_none());
+}
+
+/// Those of two files that define `ab`, `b` and `a`, and `b` once more.
+fn come_by_name(rt: &impl Abort, desk: &Desk) {
+    let all: [(&[u8], &[u8]); 4] = [
+        (b"a", b"a.c"),
+        (b"ab", b"a.c"),
+        (b"b", b"a.c"),
+        (b"b", b"b.c"),
+    ];
+    come_from(rt, desk, b"", &all);
+    come_from(rt, desk, b"aa", &all[1..]);
+    come_from(rt, desk, b"ab", &all[1..]);
+    come_from(rt, desk, b"b", &all[2..]);
+    come_from(rt, desk, b"ba", &[]);
+}
+
+#[test]
+fn definitions_from_a_name_on_come_by_name(rt: HostRuntime) -> Result<(), Refusal> {
+    let profile = Profile::all_by(Rules::Standard);
+    let mut desk = Desk::new(rt.alloc(), Bounds::standard(), profile);
+    load(&mut desk, rt.alloc(), b"b.c", b"void b(void) {}\n")?;
+    load(
+        &mut desk,
+        rt.alloc(),
+        b"a.c",
+        b"void ab(void) {}\nvoid b(void) {}\n#define a 1\n",
+    )?;
+    come_by_name(&rt, &desk);
+    desk.settle_tags(Format::Extended);
+    come_by_name(&rt, &desk);
     Ok(())
 }
 

@@ -71,6 +71,8 @@ fn shows_definitions(rt: &impl Abort, shelf: &Shelf) -> Result<(), Fail> {
     has_tags(rt, shelf.tags(), &tags)?;
     let names: [&[u8]; 5] = [b"Mb", b"TWICE", b"add", b"main", b"word"];
     has_tags(rt, shelf.all_defs(), &names)?;
+    has_tags(rt, shelf.defs_from(b"TWICF"), &names[2..])?;
+    has_tags(rt, shelf.defs_from(b"wore"), &[])?;
     has_tags(rt, shelf.defs(b"add"), &[b"add".as_slice()])
 }
 

@@ -1,5 +1,4 @@
 use Rattle.std.proofs.Common.{ap, length, arith}
-use Rattle.std.specs.Option.{option_copied}
 use Rattle.cb_index.specs.Held.{all_entries}
 use Rattle.cb_index.specs.Kinds.{def_kind, lister_of}
 use Rattle.cb_index.specs.steps.ShownIn.{shown_in}
@@ -9,7 +8,7 @@ use Rattle.cb_index.proofs.def_search.DefSearch.len.Goals as goal
 pub overflow_add-count : goal.overflow_add-count
 overflow_add-count c =
     let s = c.args.self.now in
-    let few = few_to_come (def_kind s.by_tag_name) s.archive.now (option_copied s.key) s.last
+    let few = few_to_come (def_kind s.by_tag_name) s.archive.now s.asked s.last
     (all_entries (lister_of (def_kind s.by_tag_name)) s.archive.now (shown_in s.shown)) in
     let one = ap length c.in-Some.ensures in
     omega (arith, c.loop-entry.invariant, few, s.few, one)

@@ -1,5 +1,4 @@
 use Rattle.std.proofs.Common.{◌∙◌, None, refl, sym, ap, filter, length, map, subst, arith}
-use Rattle.std.specs.Option.{option_copied}
 use Rattle.cb_index.specs.Files.{count_for}
 use Rattle.cb_index.specs.Held.{all_entries}
 use Rattle.cb_index.specs.Kinds.{def_kind, lister_of}
@@ -30,12 +29,12 @@ pub returns-then-not-is_flushed-clause-tags : goal.returns-then-not-is_flushed-c
 returns-then-not-is_flushed-clause-tags c =
     let s = c.self.inside in
     let kind = def_kind c.args.by_tag_name in
-    let key = option_copied c.args.key in
+    let asked = c.args.asked in
     ap (map (tag_at s.archive))
-    (c.new.ensures ∙ ap (λ l. to_come kind s.archive key None
+    (c.new.ensures ∙ ap (λ l. to_come kind s.archive asked None
     (all_entries (lister_of kind) s.archive l)) c.files-shown.ensures
-    ∙ asked_first kind s.archive key (all_entries (lister_of kind) s.archive s.shown.files))
-    ∙ ap (λ (v : Shelved). asked_tags kind v.archive key v.shown) c.self.view_is
+    ∙ asked_first kind s.archive asked (all_entries (lister_of kind) s.archive s.shown.files))
+    ∙ ap (λ (v : Shelved). asked_tags kind v.archive asked v.shown) c.self.view_is
 
 pub asked-requires : goal.asked-requires
 asked-requires c =
@@ -49,7 +48,7 @@ pub returns-clause-tags : goal.returns-clause-tags
 returns-clause-tags c =
     let s = c.self.inside in
     let kind = def_kind c.args.by_tag_name in
-    let key = option_copied c.args.key in
+    let asked = c.args.asked in
     let x = c.index-index.result.now in
     let same = c.index-index.ensures.kind ∙ c.def_kind.ensures in
     let is =
@@ -59,5 +58,5 @@ returns-clause-tags c =
     all_held kind s.archive s.shown.files x same
     (c.is_flushed.ensures c.if-not-is_flushed.false) is in
     ap (map (tag_at s.archive))
-    (c.asked.ensures ∙ (λ i. filter (is_asked (same i) s.archive key) (held i)))
-    ∙ ap (λ (v : Shelved). asked_tags kind v.archive key v.shown) c.self.view_is
+    (c.asked.ensures ∙ (λ i. filter (is_asked (same i) s.archive asked) (held i)))
+    ∙ ap (λ (v : Shelved). asked_tags kind v.archive asked v.shown) c.self.view_is

@@ -6,11 +6,11 @@ use Rattle.std.specs.Ordering.{is_eq}
 use Rattle.std.specs.Str.{bytes_eq}
 use Rattle.cb_index.specs.Entries.{key_of}
 use Rattle.cb_index.specs.Kinds.{keyer_of, prefix_of}
-use Rattle.cb_index.proofs.def_search.is_asked.Goals as goal
+use Rattle.cb_index.proofs.def_search.has_key.Goals as goal
 
 pub returns-then-prefix-entry : goal.returns-then-prefix-entry
 returns-then-prefix-entry c =
-    let key = c.in-Some.key.now in
+    let key = c.args.key.now in
     let own = key_of (keyer_of c.args.kind) c.args.archive.now c.args.entry in
     let same : nat_eq (prefix_of c.args.kind key) c.args.entry.prefix ≡ true =
     (Decides-eqb _ _).1 (search rules) in

@@ -1,0 +1,19 @@
+use Rattle.std.proofs.Common.{◌∙◌, ◌<◌, refl}
+use Rattle.cb_scan.specs.Order.{in_order}
+use Rattle.cb_scan.proofs.KeyOrder.{by_recursion}
+use Rattle.cb_index.specs.Entries.{sort_key}
+use Rattle.cb_index.specs.Held.{all_entries}
+use Rattle.cb_index.specs.Kinds.{keyer_of, lister_of}
+use Rattle.cb_index.specs.declared.kind.IndexKind.TheVariants.{DefsByName}
+use Rattle.cb_index.proofs.RowLemmas.{rows_from_name}
+use Rattle.cb_index.proofs.shelf.Shelf.defs_from.Goals as goal
+
+pub returns : goal.returns
+returns c =
+    let s = c.args.self.now in
+    let es =
+    in_order (sort_key (keyer_of DefsByName) s.archive)
+    (all_entries (lister_of DefsByName) s.archive s.shown) in
+    let is = c.in_order.ensures in
+    is.tags ∙ rows_from_name s.archive s.shown is.there is.ascending es is.bytes c.args.name.now
+    (by_recursion (λ b. b < 256) c.args.name.now c.read_bytes.ensures) refl
