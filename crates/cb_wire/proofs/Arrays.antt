@@ -6,11 +6,13 @@ use Rattle.std.proofs.lemmas.List.Elements.{All-head, All-tail}
 use Rattle.json.specs.Json.{Json, array, document, max_depth}
 use Rattle.json.specs.Tree.{HasNumbers, ItemsHaveNumbers, depth, items_depth}
 use Rattle.json.proofs.Printed.Decimals.{IsNumber-decimal}
+use Rattle.cb_wire.specs.declared.calls.CallItem.{CallItem}
 use Rattle.cb_wire.specs.declared.location.Location.{Location}
 use Rattle.cb_wire.specs.declared.message.Id.{Id}
 use Rattle.cb_wire.specs.declared.position.Range.{Range}
 use Rattle.cb_wire.specs.declared.symbol.Symbol.{Symbol}
 use Rattle.cb_wire.specs.declared.symbol.TreeSymbol.{TreeSymbol}
+use Rattle.cb_wire.specs.Calls.{call_item_tree}
 use Rattle.cb_wire.specs.Lists.{list_text}
 use Rattle.cb_wire.specs.Locations.{location_tree}
 use Rattle.cb_wire.specs.Messages.{id_json}
@@ -79,3 +81,13 @@ pub tree-symbol-numbers : (s : TreeSymbol) → s.kind < 2 ^ 64 → FitsWords s.l
     → FitsWords s.range → HasNumbers (tree_symbol_tree s)
 tree-symbol-numbers s k p q =
     (tt, (IsNumber-decimal s.kind k, (range-numbers s.line p, (range-numbers s.range q, tt))))
+
+pub call-item-numbers : (i : CallItem) → i.kind < 2 ^ 64 → FitsWords i.line
+    → FitsWords i.location.range → HasNumbers (call_item_tree i)
+call-item-numbers i k p q = (
+  tt,
+  (
+    IsNumber-decimal i.kind k,
+    (tt, (range-numbers i.line p, (range-numbers i.location.range q, tt))),
+  ),
+)

@@ -1,8 +1,12 @@
 pub mod Arrays
+pub mod CallItems
+pub mod Completions
 pub mod Digits
+pub mod EditTexts
 pub mod Escapes
 pub mod Fitting
 pub mod FrameLemmas
+pub mod Letters
 pub mod Lines
 pub mod Lists
 pub mod Locations
@@ -14,6 +18,8 @@ pub mod ReadBodies
 pub mod ReadHeads
 pub mod Readable
 pub mod Roots
+pub mod SameFronts
 pub mod Symbols
 pub mod Trees
+pub mod Watchers
 pub mod Welcomes

@@ -21,23 +21,23 @@ use Rattle.cb_wire.proofs.Fitting.{boundary-within, column-back, has_a_column}
 use Rattle.cb_wire.proofs.Fitting.{names_a_place, place-back}
 
 -- a byte before some bytes is a line feed, or is none
-feeds-yes : (b : ℕ) (bs : List ℕ) → (b == 10) ≡ true → line_feeds (b ∷ bs) ≡ 1 + line_feeds bs
+pub feeds-yes : (b : ℕ) (bs : List ℕ) → (b == 10) ≡ true → line_feeds (b ∷ bs) ≡ 1 + line_feeds bs
 feeds-yes b bs h =
     sum_by-cons (λ c. cond (c == 10) 1 0) b bs ∙ ap (λ t. cond t 1 0 + line_feeds bs) h
 
-feeds-no : (b : ℕ) (bs : List ℕ) → (b == 10) ≡ false → line_feeds (b ∷ bs) ≡ line_feeds bs
+pub feeds-no : (b : ℕ) (bs : List ℕ) → (b == 10) ≡ false → line_feeds (b ∷ bs) ≡ line_feeds bs
 feeds-no b bs h =
     sum_by-cons (λ c. cond (c == 10) 1 0) b bs ∙ ap (λ t. cond t 1 0 + line_feeds bs) h
     ∙ zero-add (line_feeds bs)
 
 -- the first line ends in a line feed, with so many bytes before it
-record IsEnded (text : List ℕ) : Type 0 where
-  before : ℕ
-  long : line_len text ≡ suc before
-  last : slice_index (take (suc before) text) before ≡ 10
-  feeds : line_feeds (take (suc before) text) ≡ 1
+pub record IsEnded (text : List ℕ) : Type 0 where
+  pub before : ℕ
+  pub long : line_len text ≡ suc before
+  pub last : slice_index (take (suc before) text) before ≡ 10
+  pub feeds : line_feeds (take (suc before) text) ≡ 1
 
-ended : (text : List ℕ) → IsEnded text ⊎ (line_feeds text ≡ 0)
+pub ended : (text : List ℕ) → IsEnded text ⊎ (line_feeds text ≡ 0)
 unfolding line_len
 ended [] = inr refl
 ended (b ∷ bs) =
@@ -97,15 +97,15 @@ shown-short line n long last =
 
 -- the first line of a text, and what follows it
 module _ (text : List ℕ) (some : 0 < length text) where
-  shown-zero : shown_line text 0 ≡ without_terminator (take (line_len text) text)
+  pub shown-zero : shown_line text 0 ≡ without_terminator (take (line_len text) text)
   shown-zero =
       ap (λ ls. slice_index_or (map without_terminator ls) 0 []) (lines-step text some)
 
-  shown-suc : (n : ℕ) → shown_line text (suc n) ≡ shown_line (drop (line_len text) text) n
+  pub shown-suc : (n : ℕ) → shown_line text (suc n) ≡ shown_line (drop (line_len text) text) n
   shown-suc n =
       ap (λ ls. slice_index_or (map without_terminator ls) (suc n) []) (lines-step text some)
 
-  start-suc : (n : ℕ) → line_start text (suc n)
+  pub start-suc : (n : ℕ) → line_start text (suc n)
       ≡ line_len text + line_start (drop (line_len text) text) n
   start-suc n =
       let head = take (line_len text) text in
@@ -173,7 +173,7 @@ feeds-before text = found (length text) text (omega arith)
 
 module _ (e : Encoding) (text : List ℕ) where
   -- the position of a place on a shown line
-  on_line : (n k : ℕ) → n ≤ line_feeds text → k ≤ length (shown_line text n)
+  pub on_line : (n k : ℕ) → n ≤ line_feeds text → k ≤ length (shown_line text n)
       → position e text (line_start text n + k)
       ≡ record { line = n; character = column e (shown_line text n) k }
   on_line n k p q =

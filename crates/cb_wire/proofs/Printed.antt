@@ -11,7 +11,7 @@ use Rattle.cb_wire.specs.Lists.{joined, with_separators}
 use Rattle.cb_wire.specs.Values.{items_of, value_text}
 
 -- a comma, behind a value
-abbrev comma : Bool → List ℕ → List ℕ
+abbrev pub comma : Bool → List ℕ → List ℕ
 comma true rest = 44 ∷ rest
 comma false rest = rest
 

@@ -1,3 +1,6 @@
+pub mod Calls
+pub mod Completions
+pub mod Edits
 pub mod Fields
 pub mod Frames
 pub mod Heads
@@ -12,5 +15,6 @@ pub mod Values
 pub mod Locations
 pub mod Lists
 pub mod Symbols
+pub mod Watchers
 pub mod Welcome
 pub mod steps

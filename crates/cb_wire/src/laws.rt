@@ -17,9 +17,12 @@ ghost use Rattle.std.specs.Prelude.{
   Some,
   option_map,
 };
+ghost use Rattle.std.specs.List.{AllByRecursion};
 ghost use Rattle.json.specs.Json.{Json, array, document, max_depth};
 ghost use Rattle.json.specs.Print.{escape, print};
 ghost use Rattle.json.specs.Tree.{HasNumbers, depth, json_tokens};
+ghost use Rattle.cb_wire.specs.declared.calls.CallItem.{CallItem};
+ghost use Rattle.cb_wire.specs.declared.completion.Completion.{Completion};
 ghost use Rattle.cb_wire.specs.declared.message.Id.{Id};
 ghost use Rattle.cb_wire.specs.declared.location.Highlight.{Highlight};
 ghost use Rattle.cb_wire.specs.declared.location.Location.{Location};
@@ -52,6 +55,9 @@ ghost use Rattle.cb_wire.specs.Uris.{
   path_of,
   uri_of,
 };
+ghost use Rattle.cb_wire.specs.Calls.{call_item_tree};
+ghost use Rattle.cb_wire.specs.Completions.{completion_tree};
+ghost use Rattle.cb_wire.specs.Edits.{FileEdits, HasEdits, edit_of, edits_of, edits_texts};
 ghost use Rattle.cb_wire.specs.Lists.{list_text};
 ghost use Rattle.cb_wire.specs.Locations.{highlight_tree, location_tree};
 ghost use Rattle.cb_wire.specs.Symbols.{symbol_tree, tree_symbol_tree};
@@ -152,8 +158,8 @@ pub fn lists_are_arrays()
         ≡ Some (result_tree id (array (items_of js))) }
 {}
 
-/// A range, a location, a range that is marked and a symbol are values that can be written and read
-/// back.
+/// A range, a location, a range that is marked, a symbol, a function or macro that calls or is
+/// called, and a name that completes a word, are values that can be written and read back.
 pub fn places_are_values()
     ensures range { (r : Range) → FitsWords r
         → HasNumbers (range_tree r) × (depth (range_tree r) ≡ 2) }
@@ -166,4 +172,29 @@ pub fn places_are_values()
     ensures tree_symbol { (s : TreeSymbol) → s.kind < 2 ^ 64 → FitsWords s.line
         → FitsWords s.range
         → HasNumbers (tree_symbol_tree s) × (depth (tree_symbol_tree s) ≡ 3) }
+    ensures call_item { (i : CallItem) → i.kind < 2 ^ 64 → FitsWords i.line
+        → FitsWords i.location.range
+        → HasNumbers (call_item_tree i) × (depth (call_item_tree i) ≡ 3) }
+    ensures completion { (c : Completion) → c.kind < 2 ^ 64
+        → HasNumbers (completion_tree c) × (depth (completion_tree c) ≡ 1) }
+{}
+
+/// The texts of edits, with commas between them, are the text of all edits by file, where each file
+/// has one. A reply whose result they are reads back as the reply with those edits.
+pub fn edits_are_values()
+    ensures edit { (r : Range) (new : List ℕ) → FitsWords r
+        → HasNumbers (edit_of r new) × (depth (edit_of r new) ≡ 3) }
+    ensures text { (fs : List FileEdits) → AllByRecursion HasEdits fs
+        → value_text (edits_of fs)
+        ≡ list_text (codes "{\"changes\":{") (codes ",") (codes "}}") (edits_texts fs) }
+    ensures reply { (id : Id) (fs : List FileEdits) → AllByRecursion HasEdits fs
+        → result_body id (list_text (codes "{\"changes\":{") (codes ",") (codes "}}") (edits_texts fs))
+        ≡ value_text (result_reply (id_json id) (edits_of fs)) }
+    ensures read_back { (id : Id) (fs : List FileEdits) → HasNumbers (id_json id)
+        → AllByRecursion HasEdits fs
+        → AllByRecursion (λ (f : FileEdits). All HasNumbers f.edits) fs
+        → AllByRecursion (λ (f : FileEdits). All (λ j. depth j ≤ 3) f.edits) fs
+        → document (result_body id
+        (list_text (codes "{\"changes\":{") (codes ",") (codes "}}") (edits_texts fs)))
+        ≡ Some (result_tree id (edits_of fs)) }
 {}

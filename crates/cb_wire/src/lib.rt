@@ -3,6 +3,9 @@
 //! It knows nothing of files and of what they define.
 #![tactic(auto)]
 
+mod calls;
+mod completion;
+mod edits;
 mod frame;
 mod head;
 mod header;
@@ -18,8 +21,12 @@ mod root;
 mod symbol;
 mod units;
 mod uri;
+mod watch;
 mod welcome;
 
+pub use calls::{CallItem, Calls, Ranged, Side};
+pub use completion::Completion;
+pub use edits::FileEdit;
 pub use frame::{Frame, FrameError, Frames, MOST_BODY};
 pub use list::{Element, Elements, MOST_ELEMENTS, put_list_result};
 pub use location::{Highlight, Location};
@@ -27,10 +34,12 @@ pub use message::{Call, Id, Message, OutOfMemory, message_of, text_of, value_of}
 pub use part::{Part, part_length, parts_length, put_message, put_parts};
 pub use position::{Position, Range, line_at, place_of_position, position_of_place};
 pub use reply::{
-    ErrorCode, put_error, put_log, put_result, put_result_end, put_result_head, put_show,
+    ErrorCode, put_error, put_log, put_range_result, put_result, put_result_end, put_result_head,
+    put_show,
 };
 pub use root::Root;
 pub use symbol::{Symbol, TreeSymbol};
 pub use units::{Encoding, column_of_place, place_of_column};
 pub use uri::{path_of_uri, put_escaped};
+pub use watch::put_watch_request;
 pub use welcome::put_welcome;

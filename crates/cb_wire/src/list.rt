@@ -154,7 +154,7 @@ fn put_elements<W: Write, I: Elements>(
 }
 
 /// Writes a text, elements with a separator between two, and parts.
-fn put_list<W: Write, I: Elements>(
+pub(crate) fn put_list<W: Write, I: Elements>(
     out: &mut Sink<W>,
     head: &[u8],
     between: &[u8],

@@ -245,6 +245,7 @@ pub fn parts_length(parts: &[Part<'_>]) -> u128
     requires { length parts.now ≤ 64 }
     ensures value { result ≡ length (parts_text parts.now) }
     ensures few { result < 2 ^ 76 }
+    ensures each { result ≤ 2 ^ 69 * length parts.now }
 {
     let mut total = 0u128;
     for part in parts {

@@ -1,5 +1,5 @@
 //! Numbers and ranges as they are written.
-ghost use Rattle.std.specs.Prelude.{◌≡◌, ◌<◌, ◌^◌, ◌++◌, decimal, length};
+ghost use Rattle.std.specs.Prelude.{◌≡◌, ◌≤◌, ◌++◌, decimal, length};
 ghost use Rattle.cb_tags.specs.Writing.{Puts};
 ghost use Rattle.cb_wire.specs.Values.{position_tree, range_tree, value_text};
 
@@ -19,7 +19,7 @@ pub(crate) fn put_number<W: Write>(out: &mut Sink<W>, number: usize) -> Result<(
 /// How many bytes a number takes.
 pub(crate) fn number_length(number: usize) -> u128
     ensures value { result ≡ length (decimal number) }
-    ensures few { result < 2 ^ 64 }
+    ensures few { result ≤ 40 }
 {
     let mut digits = Buffer::new();
     digits.format(number).len() as u128
@@ -53,7 +53,7 @@ fn put_position<W: Write>(
 /// How many bytes a position takes.
 fn position_length(position: Position) -> u128
     ensures value { result ≡ length (value_text (position_tree position)) }
-    ensures few { result < 2 ^ 66 }
+    ensures few { result ≤ 102 }
 {
     number_length(position.line) + number_length(position.character) + 22
 }
@@ -70,7 +70,7 @@ pub(crate) fn put_range<W: Write>(out: &mut Sink<W>, range: Range) -> Result<(),
 /// How many bytes a range takes.
 pub(crate) fn range_length(range: Range) -> u128
     ensures value { result ≡ length (value_text (range_tree range)) }
-    ensures few { result < 2 ^ 69 }
+    ensures few { result ≤ 221 }
 {
     position_length(range.start) + position_length(range.end) + 17
 }

@@ -11,9 +11,10 @@ ghost use Rattle.cb_wire.specs.Replies.{
   show_body,
 };
 ghost use Rattle.cb_wire.specs.Texts.{frame, part_text};
+ghost use Rattle.cb_wire.specs.Values.{range_tree, value_text};
 
 use crate::part::put_head;
-use crate::{Id, Part, parts_length, put_message, put_parts};
+use crate::{Id, Part, Range, parts_length, put_message, put_parts};
 use cb_tags::{Sink, WriteFault, put_text};
 use std::io::Write;
 
@@ -60,6 +61,27 @@ pub fn put_result<'a, W: Write>(
             Part::Id(id),
             Part::Raw(b",\"result\":"),
             Part::Raw(value),
+            Part::Raw(b"}"),
+        ],
+    )
+}
+
+/// Writes a reply whose result is a range.
+pub fn put_range_result<W: Write>(
+    out: &mut Sink<W>,
+    id: Id<'_>,
+    range: Range,
+) -> Result<(), WriteFault>
+    ensures { Puts out.old out.new result
+        (frame (result_body id.entry (value_text (range_tree range)))) }
+{
+    put_message(
+        out,
+        &[
+            Part::Raw(b"{\"jsonrpc\":\"2.0\",\"id\":"),
+            Part::Id(id),
+            Part::Raw(b",\"result\":"),
+            Part::Range(range),
             Part::Raw(b"}"),
         ],
     )

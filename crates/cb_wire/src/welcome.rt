@@ -5,7 +5,7 @@ ghost use Rattle.cb_wire.specs.Messages.{id_json};
 ghost use Rattle.cb_wire.specs.Texts.{frame};
 ghost use Rattle.cb_wire.specs.Trees.{result_reply};
 ghost use Rattle.cb_wire.specs.Values.{value_text};
-ghost use Rattle.cb_wire.specs.Welcome.{encoding_name, welcome};
+ghost use Rattle.cb_wire.specs.Welcome.{encoding_name, renaming, welcome};
 
 use crate::{Encoding, Id, Part, put_message};
 use cb_tags::{Sink, WriteFault};
@@ -21,15 +21,28 @@ fn encoding_name(encoding: Encoding) -> &'static [u8]
     }
 }
 
-/// Writes the reply to `initialize`: what the server does, its name and its version.
+/// How it is told that names are renamed.
+fn renaming(prepares: bool) -> &'static [u8]
+    ensures { result.now ≡ value_text (renaming prepares) }
+{
+    if prepares {
+        b"{\"prepareProvider\":true}"
+    } else {
+        b"true"
+    }
+}
+
+/// Writes the reply to `initialize`: what the server does, its name and its version. A client that
+/// prepares a change of a name is told that it may.
 pub fn put_welcome<'a, W: Write>(
     out: &mut Sink<W>,
     id: Id<'a>,
     encoding: Encoding,
+    prepares: bool,
     version: &'a [u8],
 ) -> Result<(), WriteFault>
     ensures { Puts out.old out.new result (frame (value_text
-        (result_reply (id_json id.entry) (welcome encoding version.now)))) }
+        (result_reply (id_json id.entry) (welcome encoding prepares version.now)))) }
 {
     put_message(
         out,
@@ -39,9 +52,13 @@ pub fn put_welcome<'a, W: Write>(
             Part::Raw(b",\"result\":{\"capabilities\":{\"positionEncoding\":\""),
             Part::Escaped(encoding_name(encoding)),
             Part::Raw(b"\",\"textDocumentSync\":{\"openClose\":true,\"change\":2,\"save\":true},"),
-            Part::Raw(b"\"hoverProvider\":true,\"definitionProvider\":true,"),
+            Part::Raw(b"\"hoverProvider\":true,\"completionProvider\":{},"),
+            Part::Raw(b"\"definitionProvider\":true,"),
             Part::Raw(b"\"referencesProvider\":true,\"documentHighlightProvider\":true,"),
-            Part::Raw(b"\"documentSymbolProvider\":true,\"workspaceSymbolProvider\":true},"),
+            Part::Raw(b"\"documentSymbolProvider\":true,\"workspaceSymbolProvider\":true,"),
+            Part::Raw(b"\"renameProvider\":"),
+            Part::Raw(renaming(prepares)),
+            Part::Raw(b",\"callHierarchyProvider\":true},"),
             Part::Raw(b"\"serverInfo\":{\"name\":\"cbrowse\",\"version\":\""),
             Part::Escaped(version),
             Part::Raw(b"\"}}}"),

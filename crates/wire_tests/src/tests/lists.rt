@@ -1,8 +1,8 @@
 //! Places of files, and replies whose result is a list.
 use cb_tags::{Sink, WriteFault, put_text};
 use cb_wire::{
-    Element, Elements, Id, Location, MOST_ELEMENTS, Part, Position, Range, Root, Symbol,
-    TreeSymbol, part_length, parts_length, put_list_result, put_parts,
+    Completion, Element, Elements, Id, Location, MOST_ELEMENTS, Part, Position, Range, Root,
+    Symbol, TreeSymbol, part_length, parts_length, put_list_result, put_parts,
 };
 use std::io::Write;
 use std::test::Fail;
@@ -125,6 +125,32 @@ fn an_element_is_put(rt: HostRuntime) -> Result<(), Fail> {
     );
     assert_eq!(rt; location.length(), 97);
     Ok(())
+}
+
+#[test]
+fn names_that_complete_a_word_are_listed(rt: HostRuntime) {
+    let names = [
+        Completion {
+            label: b"ab",
+            kind: 3,
+        },
+        Completion {
+            label: b"a\xFF\"",
+            kind: 21,
+        },
+    ];
+    let mut written = Vec::new(rt.alloc());
+    let mut sink = Sink::new(&mut written);
+    let (head, tail) = (b"{\"isIncomplete\":true,\"items\":[", [Part::Raw(b"]}")]);
+    let id = Id::Number("5");
+    assert!(rt; put_list_result(&mut sink, id, head, b",", &tail, 2, names.as_slice()).is_ok());
+    assert_eq!(rt;
+        written.as_slice(),
+        b"Content-Length: 118\r\n\r\n{\"jsonrpc\":\"2.0\",\"id\":5,\"result\":\
+          {\"isIncomplete\":true,\"items\":[{\"label\":\"ab\",\"kind\":3},\
+          {\"label\":\"a\xEF\xBF\xBD\\\"\",\"kind\":21}]}}"
+            .as_slice()
+    );
 }
 
 #[test]

@@ -49,22 +49,30 @@ fn a_client_is_welcomed(rt: HostRuntime) {
     let mut written = Vec::new(rt.alloc());
     let mut sink = Sink::new(&mut written);
     let id = Id::Number("0");
-    assert!(rt; put_welcome(&mut sink, id, Encoding::Utf16, b"1.2\"").is_ok());
+    assert!(rt; put_welcome(&mut sink, id, Encoding::Utf16, false, b"1.2\"").is_ok());
     assert_eq!(rt;
         written.as_slice(),
-        b"Content-Length: 358\r\n\r\n{\"jsonrpc\":\"2.0\",\"id\":0,\"result\":\
+        b"Content-Length: 433\r\n\r\n{\"jsonrpc\":\"2.0\",\"id\":0,\"result\":\
           {\"capabilities\":{\"positionEncoding\":\"utf-16\",\
           \"textDocumentSync\":{\"openClose\":true,\"change\":2,\"save\":true},\
-          \"hoverProvider\":true,\"definitionProvider\":true,\
+          \"hoverProvider\":true,\"completionProvider\":{},\"definitionProvider\":true,\
           \"referencesProvider\":true,\"documentHighlightProvider\":true,\
-          \"documentSymbolProvider\":true,\"workspaceSymbolProvider\":true},\
+          \"documentSymbolProvider\":true,\"workspaceSymbolProvider\":true,\
+          \"renameProvider\":true,\"callHierarchyProvider\":true},\
           \"serverInfo\":{\"name\":\"cbrowse\",\"version\":\"1.2\\\"\"}}}"
             .as_slice()
     );
     let mut again = Vec::new(rt.alloc());
     let mut sink = Sink::new(&mut again);
-    assert!(rt; put_welcome(&mut sink, Id::Text("i"), Encoding::Utf8, b"1.23").is_ok());
-    assert_eq!(rt; again.len(), written.len());
+    assert!(rt; put_welcome(&mut sink, Id::Text("i"), Encoding::Utf8, true, b"1.23").is_ok());
+    assert!(rt;
+        again.as_slice().ends_with(
+            b",\"renameProvider\":{\"prepareProvider\":true},\
+        \"callHierarchyProvider\":true},\
+        \"serverInfo\":{\"name\":\"cbrowse\",\"version\":\"1.23\"}}}"
+        )
+    );
+    assert_eq!(rt; again.len(), written.len() + 20);
 }
 
 #[test]

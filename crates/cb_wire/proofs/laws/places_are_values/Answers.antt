@@ -1,6 +1,7 @@
 use Rattle.std.proofs.Common.{refl}
 use Rattle.cb_wire.proofs.Arrays.{location-numbers, range-numbers, symbol-numbers}
-use Rattle.cb_wire.proofs.Arrays.{tree-symbol-numbers}
+use Rattle.cb_wire.proofs.Arrays.{call-item-numbers, tree-symbol-numbers}
+use Rattle.cb_wire.proofs.Completions.{item-numbers}
 use Rattle.cb_wire.proofs.laws.places_are_values.Goals as goal
 
 pub returns-clause-range : goal.returns-clause-range
@@ -17,3 +18,9 @@ returns-clause-symbol c = λ s k p. (symbol-numbers s k p, refl)
 
 pub returns-clause-tree_symbol : goal.returns-clause-tree_symbol
 returns-clause-tree_symbol c = λ s k p q. (tree-symbol-numbers s k p q, refl)
+
+pub returns-clause-call_item : goal.returns-clause-call_item
+returns-clause-call_item c = λ i k p q. (call-item-numbers i k p q, refl)
+
+pub returns-clause-completion : goal.returns-clause-completion
+returns-clause-completion c = λ d k. (item-numbers d k, refl)
