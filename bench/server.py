@@ -18,12 +18,14 @@ ready     From the start to the reply to `initialize`, and from the start to the
           The first question puts definitions in order: its time, that of the same once more, and
           what is resident then.
 ask       `definition`, `hover` and `documentHighlight` at a thousand names in the files that are
-          defined somewhere, and `definition` at a thousand headers, which looks at all files;
+          defined somewhere, `completion` behind the second letter of each, and `definition` at a
+          thousand headers, which looks at all files;
           `references` at these names, behind a first one that puts uses in order, and at the name
-          that is used most;
-          `documentSymbol` of files of nearly 1,000 lines; `workspace/symbol` by parts of names, and
-          by texts that no name holds. The last two look at all names, unless 1,000 of them hold the
-          text.
+          that is used most; `rename` of a name with 10,000 uses in ten documents; incoming and
+          outgoing calls of the functions and macros that these names mean, and of a function that
+          1,000 functions of its file call, and of one that calls these; `documentSymbol` of files
+          of nearly 1,000 lines; `workspace/symbol` by parts of names, and by texts that no name
+          holds. The last two look at all names, unless 1,000 of them hold the text.
 change    `didChange` of a document of 50 kB and of one of 1 MB, each time another text: until a
           `documentSymbol` of a tiny document behind it is answered; and the same where one letter
           is sent, which changes at its place. Beside them the message with a whole text for a
@@ -61,6 +63,8 @@ from measure import MOST_BYTES, MOST_FILES, c_files, copy, installed, keep_to_on
 from measure import options, processor_time, spread, words_given
 
 RUNS = 5
+USES = 10_000  # of a name that is renamed
+CALLS = 1_000  # functions that call one, and that one calls
 ASKED = 1000  # questions of each kind
 SEARCHES = 200
 MUCH_USED = 50  # names among which the most used one is
@@ -302,6 +306,64 @@ def put_references(server, folder, names, there, found, nothing):
     put_all("references, the most used name", server, [most] * RUNS, nothing)
 
 
+def items(server, found):
+    """The functions and macros that names mean at some places."""
+    asked = at_places(server, "textDocument/prepareCallHierarchy", found)
+    replies = [json.loads(server.ask(message)[0])["result"] or [] for message in asked]
+    return [item for reply in replies for item in reply]
+
+
+def put_calls(server, found, nothing):
+    """Lines for calls: the first question, who calls and what is called, at these places."""
+    calling = items(server, found)
+    first = True
+    for label in "incoming", "outgoing":
+        method = f"callHierarchy/{label}Calls"
+        messages = [frame(method, {"item": item}, 1) for item in calling]
+        if first:
+            put("incoming calls, the first question", [server.ask(messages[0])[1]], nothing)
+            first = False
+        put_all(f"{label} calls", server, messages, nothing)
+        most = max(messages, key=lambda it: len(server.ask(it)[0]))
+        put_all(f"{label} calls, the longest reply", server, [most] * RUNS, nothing)
+
+
+def calls(cbrowse, folder):
+    """Lines for a function that 1,000 functions of its file call, and for one that calls them."""
+    server = Server([cbrowse, "lsp"], folder)
+    many = "".join(f"int f{number}(void) {{ return called(); }}\n" for number in range(CALLS))
+    calling = "".join(f"\tf{number}();\n" for number in range(CALLS))
+    server.open("calls.c", f"int called(void) {{\n}}\n{many}int all(void) {{\n{calling}}}\n")
+    for label, line, name in ("incoming", 0, "called"), ("outgoing", 2 + CALLS, "all"):
+        start = {"line": line, "character": 4}
+        span = {"start": start, "end": start}
+        item = {"name": name, "uri": server.uri("calls.c"), "selectionRange": span}
+        message = frame(f"callHierarchy/{label}Calls", {"item": item}, 1)
+        reply = server.ask(message)[0]
+        if reply.count(b'"fromRanges"') != CALLS:
+            raise SystemExit(f"not all calls are told: {reply[:200]!r}")
+        put_all(f"{label} calls, {CALLS:,} of them", server, [message] * RUNS)
+    server.end()
+
+
+def renames(cbrowse, folder):
+    """Lines for a name with 10,000 uses in ten documents: whether it may be renamed, and how."""
+    server = Server([cbrowse, "lsp"], folder)
+    used = "int used(void) {\n" + "\tused();\n" * (USES // 10 - 1) + "}\n"
+    for number in range(10):
+        server.open(f"renamed_{number}.c", used)
+    place = {"position": {"line": 0, "character": 4}, "newName": "renamed"}
+    params = {**server.document("renamed_0.c"), **place}
+    message = frame("textDocument/rename", params, 1)
+    first, seconds = server.ask(message)
+    if first.count(b'"newText":"renamed"') != USES:
+        raise SystemExit(f"not all uses are renamed: {first[:200]!r}")
+    put("rename, the first question", [seconds])
+    put_all(f"rename, {USES:,} uses", server, [message] * RUNS)
+    put_all("prepareRename", server, [frame("textDocument/prepareRename", params, 1)] * RUNS)
+    server.end()
+
+
 def of_lines(folder, names, count):
     """The files whose number of lines is nearest to 1,000."""
     lines = {name: (folder / name).read_bytes().count(b"\n") for name in names}
@@ -385,7 +447,11 @@ def ask(cbrowse, names, folder, there, dice):
     nothing = put_nothing(server)
     for label in "definition", "hover", "documentHighlight":
         put_all(label, server, at_places(server, f"textDocument/{label}", found), nothing)
+    behind = [(name, line, column + 2) for name, line, column in found]
+    messages = at_places(server, "textDocument/completion", behind)
+    put_all("completion of two letters", server, messages, nothing)
     put_references(server, folder, names, there, found, nothing)
+    put_calls(server, found, nothing)
     found = headers(folder, names, ASKED, dice)
     messages = at_places(server, "textDocument/definition", found)
     put_all("definition, a header", server, messages, nothing)
@@ -540,6 +606,8 @@ def main():
             ready(given.cbrowse, names, folder)
         if "ask" in parts:
             ask(given.cbrowse, names, folder, there, dice)
+            renames(given.cbrowse, folder)
+            calls(given.cbrowse, folder)
         if "change" in parts:
             change(given.cbrowse, names, folder)
         if "memory" in parts:

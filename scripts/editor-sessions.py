@@ -40,13 +40,23 @@ VERSION = re.findall(r"^## (\S+)", NOTES, re.MULTILINE)[0]
 WELCOME = (
     '{"capabilities":{"positionEncoding":"%s",'
     '"textDocumentSync":{"openClose":true,"change":2,"save":true},"hoverProvider":true,'
+    '"completionProvider":{},'
     '"definitionProvider":true,"referencesProvider":true,'
     '"documentHighlightProvider":true,"documentSymbolProvider":true,'
-    '"workspaceSymbolProvider":true},'
+    '"workspaceSymbolProvider":true,"renameProvider":%s,"callHierarchyProvider":true},'
     '"serverInfo":{"name":"cbrowse","version":"%s"}}'
+)
+ASKS_FIRST = '{"prepareProvider":true}'  # told to a client that asks what would be renamed
+WATCHES = '{"workspace":{"didChangeWatchedFiles":{"dynamicRegistration":true}}}'
+# what a client with them is asked when it is ready
+WATCH = (
+    '{"jsonrpc":"2.0","id":"watch","method":"client/registerCapability","params":{"registrations":['
+    '{"id":"files","method":"workspace/didChangeWatchedFiles",'
+    '"registerOptions":{"watchers":[{"globPattern":"**/*.[ch]"}]}}]}}'
 )
 CAPABILITIES = {
     "plain": "{}",
+    "watching": WATCHES,
     "tree": '{"textDocument":{"documentSymbol":{"hierarchicalDocumentSymbolSupport":true}}}',
     "bytes": '{"general":{"positionEncodings":["utf-8"]}}',
 }
@@ -55,8 +65,12 @@ CAPABILITIES = {
 # ---- what is written
 
 
+root = "/w"  # the folder that is the root of the row that is read
+
+
 def frame(body: str | bytes) -> bytes:
     body = body.encode() if isinstance(body, str) else body
+    body = body.replace(b"file:///w", b"file://" + root.encode())
     return b"Content-Length: %d\r\n\r\n%s" % (len(body), body)
 
 
@@ -89,10 +103,15 @@ def span(line: str, columns: str) -> str:
     )
 
 
+def uri(name: str) -> str:
+    """The URI of a file below the root."""
+    return f"file:///w/{name}"
+
+
 def location(place: str) -> str:
-    """FILE:LINE:FROM-TO, of a file in the folder /w."""
+    """FILE:LINE:FROM-TO, of a file below the root."""
     name, line, columns = place.split(":")
-    return '{"uri":"file:///w/%s","range":%s}' % (name, span(line, columns))
+    return '{"uri":"%s","range":%s}' % (uri(name), span(line, columns))
 
 
 def symbol(words: str) -> str:
@@ -104,6 +123,12 @@ def symbol(words: str) -> str:
 def mark(place: str) -> str:
     """LINE:FROM-TO, marked."""
     return '{"range":%s}' % span(*place.split(":"))
+
+
+def completions(names: list[str], more: bool = False) -> str:
+    """Names that complete a word, each NAME=KIND, and whether there are more."""
+    items = ['{"label":"%s","kind":%s}' % tuple(it.split("=")) for it in names]
+    return '{"isIncomplete":%s,"items":[%s]}' % ("true" if more else "false", ",".join(items))
 
 
 # ---- rows
@@ -119,6 +144,7 @@ class Row(NamedTuple):
     turns: list[tuple[bytes, bytes]]
     status: int = 0
     said: bytes = b""
+    disk: dict[pathlib.Path, Optional[bytes]] = {}  # files, and folders without a text
 
     @property
     def given(self) -> bytes:
@@ -127,6 +153,10 @@ class Row(NamedTuple):
     @property
     def out(self) -> bytes:
         return b"".join(written for _, written in self.turns)
+
+
+def slug(name: str) -> str:
+    return re.sub(r"\W", "-", name)
 
 
 def plain(text: str) -> bytes:
@@ -144,12 +174,16 @@ def repeated(line: str) -> str:
     return re.sub(r"\((\d+) of ([^()]+)\)", lambda it: it[2] * int(it[1]), line)
 
 
+def welcome(encoding: str, renaming: str = "true") -> str:
+    return WELCOME % (encoding, renaming, VERSION)
+
+
 def initialize(capabilities: str) -> tuple[bytes, bytes]:
     sent = '{"jsonrpc":"2.0","id":0,"method":"initialize","params":%s}' % (
         '{"rootUri":"file:///w","capabilities":%s}' % CAPABILITIES[capabilities]
     )
     encoding = "utf-8" if capabilities == "bytes" else "utf-16"
-    return frame(sent), result("0", WELCOME % (encoding, VERSION))
+    return frame(sent), result("0", welcome(encoding))
 
 
 INITIALIZED = (message(method="initialized", params={}), b"")
@@ -160,14 +194,13 @@ ENDING = [
 
 
 def document(method: str, name: str, **more) -> bytes:
-    uri = {"uri": f"file:///w/{name}"}
-    params = {"textDocument": {**uri, **more.pop("inside", {})}, **more}
+    params = {"textDocument": {"uri": uri(name), **more.pop("inside", {})}, **more}
     return message(method=f"textDocument/{method}", params=params)
 
 
 def asked(number: str, method: str, name: str, *place: str, **more: dict) -> bytes:
     """A request about a document, at a line and a column where these are given."""
-    params: dict = {"textDocument": {"uri": f"file:///w/{name}"}, **more}
+    params: dict = {"textDocument": {"uri": uri(name)}, **more}
     if place:
         params["position"] = {"line": int(place[0]), "character": int(place[1])}
     return message(id=int(number), method=f"textDocument/{method}", params=params)
@@ -177,6 +210,27 @@ def uses_asked(number: str, declarations: str, *place: str) -> bytes:
     """A request for the uses of a name, `with` the names of definitions or `without`."""
     context = {"includeDeclaration": declarations == "with"}
     return asked(number, "references", *place, context=context)
+
+
+def rename_asked(number: str, new: str, *place: str) -> bytes:
+    return asked(number, "rename", *place, newName=new)
+
+
+def edits(new: str, places: list[str]) -> str:
+    """A new name at NAME:LINE:FROM-TO .., by file."""
+    changes: dict[str, list[str]] = {}
+    for place in places:
+        name, line, columns = place.split(":")
+        edit = '{"range":%s,"newText":"%s"}' % (span(line, columns), new)
+        changes.setdefault(uri(name), []).append(edit)
+    made = ['"%s":[%s]' % (file, ",".join(some)) for file, some in changes.items()]
+    return '{"changes":{%s}}' % ",".join(made)
+
+
+def events(kind: int, names: list[str]) -> bytes:
+    """File events of a kind."""
+    changes = [{"uri": uri(it), "type": kind} for it in names]
+    return message(method="workspace/didChangeWatchedFiles", params={"changes": changes})
 
 
 def change(text: str) -> dict:
@@ -216,12 +270,12 @@ def sent_by(word: str, rest: str) -> Optional[bytes]:
         ),
         "save": lambda: document("didSave", first),
         "close": lambda: document("didClose", first),
-        "gone": lambda: message(
-            method="workspace/didChangeWatchedFiles",
-            params={"changes": [{"uri": f"file:///w/{it}", "type": 3} for it in rest.split()]},
-        ),
+        "made": lambda: events(1, rest.split()),
+        "written": lambda: events(2, rest.split()),
+        "gone": lambda: events(3, rest.split()),
         "ask": lambda: asked(*rest.split()),
         "uses": lambda: uses_asked(*rest.split()),
+        "rename": lambda: rename_asked(*rest.split()),
         "find": lambda: message(id=int(first), method="workspace/symbol", params={"query": after}),
         "shutdown": lambda: message(id=int(first), method="shutdown"),
         "exit": lambda: message(method="exit"),
@@ -234,8 +288,13 @@ def written_by(word: str, rest: str) -> bytes:
     if word == "<<":
         return frame(plain(rest))
     if word == "<":
-        for macro, encoding in ("(welcome)", "utf-16"), ("(welcome in bytes)", "utf-8"):
-            rest = rest.replace(macro, WELCOME % (encoding, VERSION))
+        for macro, made in (
+            ("(welcome)", welcome("utf-16")),
+            ("(welcome in bytes)", welcome("utf-8")),
+            ("(welcome that is asked first)", welcome("utf-8", ASKS_FIRST)),
+            ("(watch)", WATCH),
+        ):
+            rest = rest.replace(macro, made)
         return frame(rest)
     first, _, after = rest.partition(" ")
     if word == "log":
@@ -248,8 +307,13 @@ def written_by(word: str, rest: str) -> bytes:
         return result(first, "[%s]" % ",".join(map(location, after.split())))
     if word == "marks":
         return result(first, "[%s]" % ",".join(map(mark, after.split())))
+    if word == "edits":
+        new, *places = after.split()
+        return result(first, edits(new, places))
     if word == "symbols":
         return result(first, "[%s]" % ",".join(map(symbol, after.split())))
+    if word == "names":
+        return result(first, completions(after.split()))
     if word == "hover":
         place, _, text = after.partition(" ")
         line, columns = place.split(":")
@@ -260,11 +324,17 @@ def written_by(word: str, rest: str) -> bytes:
     raise SystemExit(f"{ROWS.name}: no line begins with {word}")
 
 
-def row_of(lines: list[str]) -> Row:
+def row_of(lines: list[str], room: pathlib.Path = pathlib.Path("/w")) -> Row:
+    """A row; the root of one that reads files again is a folder in a room."""
+    global root
+    name = lines[0].removeprefix("== ")
+    reads = any(line.startswith(("disk ", "folder ")) for line in lines)
+    root = str(room / slug(name)) if reads else "/w"
     words: list[str] = ["lsp"]
     files: dict[str, bytes] = {}
     turns = [initialize("plain"), INITIALIZED]
     ending, status, said = ENDING, 0, b""
+    disk: dict[pathlib.Path, Optional[bytes]] = {}
     for line in lines[1:]:
         word, _, rest = repeated(line).partition(" ")
         if word in ("", "#"):
@@ -272,10 +342,13 @@ def row_of(lines: list[str]) -> Row:
         if word == "words":
             words += rest.split()
         elif word in ("file", "copy", "beside"):
-            name, _, text = rest.partition(" ")
+            file, _, text = rest.partition(" ")
             is_copy = word == "copy"
-            files[name] = (DATA / name.split("/")[-1]).read_bytes() if is_copy else plain(text)
-            words += [name] * (word != "beside")
+            files[file] = (DATA / file.split("/")[-1]).read_bytes() if is_copy else plain(text)
+            words += [file] * (word != "beside")
+        elif word in ("disk", "folder"):
+            file, _, text = rest.partition(" ")
+            disk[pathlib.Path(root, file)] = plain(text) if word == "disk" else None
         elif word == "client":
             turns = [] if rest == "none" else [initialize(rest), INITIALIZED]
         elif word == "end":
@@ -288,17 +361,19 @@ def row_of(lines: list[str]) -> Row:
                 turns.append((sent, b""))
             else:
                 turns[-1] = (turns[-1][0], turns[-1][1] + written_by(word, rest))
-    return Row(lines[0].removeprefix("== "), words, files, turns + ending, status, said)
+    return Row(name, words, files, turns + ending, status, said, disk)
 
 
-def rows() -> list[Row]:
+def rows(room: pathlib.Path) -> list[Row]:
     lines = ROWS.read_text().split("\n")
     starts = [i for i, line in enumerate(lines) if line.startswith("== ")]
-    return [row_of(lines[a:b]) for a, b in zip(starts, [*starts[1:], len(lines)])]
+    return [row_of(lines[a:b], room) for a, b in zip(starts, [*starts[1:], len(lines)])]
 
 
 def made_rows() -> Iterator[Row]:
     """Rows with many symbols and with the largest bodies."""
+    global root
+    root = "/w"
     opening = [initialize("plain"), INITIALIZED]
     names = [f"m{number:04}" for number in range(1_005)]
     text = "".join(f"#define {name} 1\n" for name in names).encode()
@@ -315,6 +390,18 @@ def made_rows() -> Iterator[Row]:
         sent = message(id=int(number), method="workspace/symbol", params={"query": query})
         many.append((sent, result(number, "[%s]" % ",".join(chosen))))
     yield Row("over 1,000 symbols", ["lsp", "many.h"], {"many.h": text}, [*opening, *many, *ENDING])
+    # 1,005 names begin with "m", and 1,000 with "m0"
+    first = [f"{name}=21" for name in names[:1000]]
+    completed = [
+        (asked("1", "completion", "many.h", "0", "9"), result("1", completions(first, more=True))),
+        (asked("2", "completion", "many.h", "0", "10"), result("2", completions(first))),
+    ]
+    yield Row(
+        "over 1,000 names complete a word",
+        ["lsp", "many.h"],
+        {"many.h": text},
+        [*opening, *completed, *ENDING],
+    )
     # "m" is the name of two, and 1,005 others hold it
     exact = [symbol(f"m=14@{file}:0:8-9") for file in ("a.h", "b.h")]
     sent = message(id=1, method="workspace/symbol", params={"query": "m"})
@@ -393,11 +480,15 @@ class Checks:
 
     def place(self, row: Row) -> pathlib.Path:
         """A folder with the files of a row."""
-        folder = self.folder / re.sub(r"\W", "-", row.name)
+        folder = self.folder / slug(row.name)
         folder.mkdir(exist_ok=True)
-        for name, text in row.files.items():
-            (folder / name).parent.mkdir(parents=True, exist_ok=True)
-            (folder / name).write_bytes(text)
+        files = {folder / name: text for name, text in row.files.items()}
+        for path, text in (files | row.disk).items():
+            path.parent.mkdir(parents=True, exist_ok=True)
+            if text is None:
+                path.mkdir(exist_ok=True)
+            else:
+                path.write_bytes(text)
         return folder
 
     def start(self, row: Row, **how) -> subprocess.Popen:
@@ -540,10 +631,11 @@ def main() -> int:
         "program", nargs="?", default=str(TOP / "bin" / "cbrowse"), metavar="PROGRAM"
     )
     program = str(pathlib.Path(parser.parse_args().program).resolve())
-    made = [*made_rows()]
     with tempfile.TemporaryDirectory() as room:
         checks = Checks(program, pathlib.Path(room))
-        for row in [*rows(), *made]:
+        read = rows(pathlib.Path(room, "roots"))
+        made = [*made_rows()]
+        for row in [*read, *made]:
             checks.row(row)
         short = row_of(SHORT.split("\n"))
         checks.row(short)

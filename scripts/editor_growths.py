@@ -4,8 +4,8 @@ A message whose growth is refused is told by a log, by an error as its reply, or
 for its document. After a log, an error and a show of the URI all goes on as if the message had not
 been sent. After a show of the file's name it goes on as if the text had been too large, and of a
 document that was closed, as if it had been saved before; one that was opened may not be open then
-either, and a file that was deleted stays. So runs in which nothing is refused give each outcome
-that may be. At the start the program says that memory was refused, and ends.
+either, and a file that was deleted or written stays as it was. So runs in which nothing is refused
+give each outcome that may be. At the start the program says that memory was refused, and ends.
 """
 
 from __future__ import annotations
@@ -14,6 +14,8 @@ import json
 import pathlib
 import re
 import subprocess
+import tempfile
+import urllib.parse
 from typing import Iterable, NamedTuple, Optional
 
 from growths import PATIENCE, Growths, Wrong
@@ -24,10 +26,14 @@ FILES = {
     "a.c": b'#include "b.h"\nint f(void) {\n\treturn g(TWICE(1));\n}\n',
     "b.h": b"#define TWICE(x) ((x) + (x))\nstatic int g(int a) { return a; }\n",
 }
+ROOM = tempfile.TemporaryDirectory(prefix="a tree ")  # the root, where a file is read again
+pathlib.Path(ROOM.name, "disk.h").write_bytes(b"#define D TWICE(5)\n" * 200)
 TOO_LARGE = " " * (MOST_BYTES + 1)
 WORDS = ["lsp", "--max-file-bytes", str(MOST_BYTES), *FILES]
 AT_START = [b"cbrowse: " + name + b"out of memory\n" for name in (b"", b"a.c: ", b"b.h: ")]
-OTHERS = ("definition", "hover", "references", "documentHighlight")  # requests that name a position
+# requests that name a position
+OTHERS = "definition hover references documentHighlight prepareRename rename".split()
+OTHERS += ["prepareCallHierarchy", "completion"]
 HEAD = re.compile(rb"Content-Length: (\d+)\r\n\r\n")
 
 
@@ -39,7 +45,7 @@ class Step(NamedTuple):
 
 
 def uri_of(name: str) -> str:
-    return f"file:///w/a%20tree/{name}"
+    return f"file://{urllib.parse.quote(ROOM.name)}/{name}"
 
 
 def document(method: str, name: str, **more) -> dict:
@@ -79,10 +85,16 @@ def gone(name: str) -> Step:
     return Step({"method": "workspace/didChangeWatchedFiles", "params": {"changes": changes}})
 
 
+def written(name: str) -> Step:
+    changes = [{"uri": uri_of(name), "type": 2}]
+    return Step({"method": "workspace/didChangeWatchedFiles", "params": {"changes": changes}})
+
+
 def asked(number: int, method: str, name: str, line: int, column: int) -> Step:
     place = {"line": line, "character": column} if method in OTHERS else None
     context = {"includeDeclaration": False}
-    return Step({"id": number, **document(method, name, position=place, context=context)})
+    more = {"position": place, "context": context, "newName": "renamed"}
+    return Step({"id": number, **document(method, name, **more)})
 
 
 def session() -> list[Step]:
@@ -91,12 +103,20 @@ def session() -> list[Step]:
     named = [asked(3, "definition", "a.c", 2, 9), asked(4, "hover", "a.c", 2, 13)]
     named.append(asked(10, "documentHighlight", "a.c", 2, 9))
     named.append(asked(13, "references", "a.c", 2, 9))
+    twice = {"name": "TWICE", "uri": uri_of("new.c")}
+    start = {"line": 0, "character": 4}
+    caller = {"name": "h", "uri": uri_of("new.c"), "selectionRange": {"start": start}}
+    named += [asked(14, "prepareRename", "a.c", 2, 9), asked(15, "rename", "a.c", 2, 9)]
+    named += [asked(16, "rename", "a.c", 0, 5), asked(17, "completion", "a.c", 2, 10)]
     return [
         Step({"id": 0, "method": "initialize", "params": root}),
         Step({"method": "initialized", "params": {}}),
         opened("a.c", '#include "b.h"\nint \u00e9(void) {\n\treturn g(TWICE(2));\n}\n#define H\n'),
         asked(1, "documentSymbol", "a.c", 0, 0),
         opened("new.c", "int h(void) {\n\treturn TWICE(3);\n}\n"),
+        asked(14, "prepareCallHierarchy", "new.c", 1, 9),
+        Step({"id": 15, "method": "callHierarchy/incomingCalls", "params": {"item": twice}}),
+        Step({"id": 17, "method": "callHierarchy/outgoingCalls", "params": {"item": caller}}),
         changed("a.c", "int i(void) {\r\n}\n\treturn g(TWICE(4)); // \u0001\"\\\n" * 2),
         asked(2, "documentSymbol", "a.c", 0, 0),
         *named,
@@ -115,6 +135,9 @@ def session() -> list[Step]:
         closed("new.c"),
         asked(9, "documentSymbol", "new.c", 0, 0),
         gone("b.h"),
+        written("disk.h"),
+        asked(18, "documentSymbol", "disk.h", 0, 0),
+        written("disk.h"),
         opened("a.c", "int m(void) {\n}\n"),
         opened("a.c", "int n(void) {\n}\n"),
         Step({"id": 10, "method": "workspace/symbol", "params": {"query": ""}}),

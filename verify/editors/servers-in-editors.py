@@ -10,9 +10,9 @@ ASCII. An editor that is not there is passed over. What they have to be told was
 
     Tree      a small tree under git. Definitions of functions, also of static ones, of macros in
               headers and of headers on `#include` lines; hover; uses in all files, without the
-              names of definitions; highlights; symbols of a document and of the workspace. Columns
-              count behind letters outside ASCII. What git ignores is not found, nor are links; a
-              new file is
+              names of definitions; the edits of a rename; highlights; symbols of a document and of
+              the workspace. Columns count behind letters outside ASCII. What git ignores is not
+              found, nor are links; a new file is
     Edits     definitions follow what is typed before it is saved, and go back where it is undone.
               After a document is closed with its edit thrown away, answers are about the text that
               was saved, or else opened. So it is with a file that was never on disk
@@ -58,6 +58,8 @@ METHODS = {
     "definition": "textDocument/definition",
     "hover": "textDocument/hover",
     "uses": "textDocument/references",
+    "prepare": "textDocument/prepareRename",
+    "rename": "textDocument/rename",
     "marks": "textDocument/documentHighlight",
     "symbols": "textDocument/documentSymbol",
     "workspace": "workspace/symbol",
@@ -161,6 +163,7 @@ function does.ask(step)
     at({'', step[2], step[4] or 0, step[5] or 0})
     params = vim.lsp.util.make_position_params(0, client.offset_encoding)
     params.context = {includeDeclaration = false}  -- of a request for uses
+    params.newName = 'renamed'
   end
   times = {}
   for _ = 1, given.again do
@@ -230,7 +233,8 @@ EMACS_SCRIPT = r"""
                       (eglot-current-server) (intern (concat ":" method))
                       (if (stringp line) (list :query line)
                         (append (eglot--TextDocumentPositionParams)  ; the context of uses
-                                '(:context (:includeDeclaration :json-false))))))
+                                '(:context (:includeDeclaration :json-false)
+                                  :newName "renamed")))))
         (push (* 1000 (- (float-time) began)) times)))
     (vector result (vconcat times))))
 (defun step-done (step)
@@ -330,6 +334,9 @@ def questions(plan: Plan) -> None:
     plan.ask("uses", main, 11, 40, is_now=[("lib/deep/list.h", 1, 4, 8), (main, 11, 37, 41)])
     plan.ask("uses", main, 6, 12, is_now=[(main, 6, 12, 17)])  # SIDES
     plan.ask("uses", main, 11, 15, is_now=[])
+    plan.ask("prepare", main, 11, 22, is_now=(11, 19, 25))  # helper
+    plan.ask("prepare", main, 11, 15, is_now=None)
+    plan.ask("rename", main, 11, 22, is_now=[(main, 4, 11, 17), (main, 11, 19, 25)])
     plan.ask("marks", main, 11, 22, is_now=[(4, 11, 17), (11, 19, 25)])  # helper
     plan.ask("marks", main, 6, 17, is_now=[(6, 12, 17)])  # SIDES
     plan.ask("marks", main, 11, 15, is_now=[])
@@ -433,6 +440,11 @@ def plain(method: str, told: object, root: pathlib.Path) -> object:
     if method.endswith("hover"):
         begin, end = told["range"]["start"], told["range"]["end"]
         return told["contents"]["value"], begin["line"], begin["character"], end["character"]
+    if method.endswith("prepareRename"):
+        return told["start"]["line"], *(told[at]["character"] for at in ENDS)
+    if method.endswith("rename"):
+        edits = [({"uri": uri, **it}) for uri, some in told["changes"].items() for it in some]
+        return [(*place_of(it, root), it["range"]["end"]["character"]) for it in edits]
     if method.endswith("Highlight"):
         ranges = [it["range"] for it in told]
         return [(it["start"]["line"], *(it[at]["character"] for at in ENDS)) for it in ranges]

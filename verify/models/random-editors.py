@@ -7,8 +7,11 @@
 
 Session number n has the seed n. It has files of the command line or none, a profile, bounds and a
 root, and then 3 to 60 messages, more often those that do something where the session stands:
-documents are opened, changed as a whole and in parts, saved, closed and deleted, and requests ask
-at names, headers and any other place, in both encodings, for lists and trees. Texts have CR LF,
+documents are opened, changed as a whole and in parts, saved and closed, files are deleted and, in
+some sessions, read again from a folder that holds other texts, and requests ask
+at names, headers and any other place, in both encodings, for lists and trees. Names are renamed,
+often where all files were opened, and then the client makes the edits: in each file the new name
+has to be used where the old one was, and nowhere else. Texts have CR LF,
 lone CRs, letters outside ASCII and, in files and in messages, bytes that are no UTF-8. Some
 messages have wrong parameters, ids or members, are no JSON or have odd heads; some inputs end
 within a message. The input comes in random pieces. Standard output, standard error and the status
@@ -30,10 +33,10 @@ import re
 import subprocess
 import sys
 import tempfile
-from typing import NamedTuple
+from typing import NamedTuple, Optional
 
 from draw import Draw
-from server_model import Ended, Outcome, Server, frame, headers, position_of, serve
+from server_model import Ended, Outcome, Server, frame, headers, place_of, position_of, serve
 from session_model import Bounds
 
 sys.path.insert(0, str(pathlib.Path(__file__).resolve().parents[1]))
@@ -65,10 +68,12 @@ BAD = [b"\xff", b"\xc3", b"\xf0\x9f\x98", b"\xed\xa0\x80", b"\xe9\xa9", b"\xf4\x
        b"\x80"]
 RAW = "\ue000"  # a letter that stands for bytes which are no UTF-8
 QUERIES = ["", "", "f", "F", "a", "AB", "main", "Main", "b_1", "\u00e9", "f ", "x" * 300]
+NEW_NAMES = ["sum", "sum", "sum", "_2", "longer_name", *WORDS[:4], "A", "int", "", "1a", "a b",
+             "\u00e9", "sum\n", "x" * 300]
 METHODS = [
-    "textDocument/references", "textDocument/rename", "textDocument/formatting", "$/any", "",
-    "exit", "callHierarchy/incomingCalls", "initialized", "textDocument/didOpen",
-    "workspace/Symbol",
+    "textDocument/implementation", "textDocument/formatting", "$/any", "",
+    "exit", "callHierarchy/incomingCalls", "callHierarchy/outgoingCalls", "initialized",
+    "textDocument/didOpen", "workspace/Symbol",
 ]
 QUIET = ["initialized", "$/cancelRequest", "$/setTrace", "workspace/didChangeConfiguration",
          "textDocument/willSave", "any", "initialize", "shutdown", "textDocument/hover"]
@@ -95,10 +100,12 @@ class Difference(Exception):
 
 
 class Session(NamedTuple):
-    """The words and files of a run, and what is sent; `how` is for the model."""
+    """The words and files of a run, the files and folders that it may read again, and what is sent;
+    `how` is for the model."""
 
     words: list[str]
     files: dict[str, bytes]
+    disk: dict[bytes, Optional[bytes]]
     data: bytes
     how: dict
 
@@ -106,7 +113,7 @@ class Session(NamedTuple):
 class Editor:
     """Draws the messages of one session, beside a server that shows where it stands."""
 
-    def __init__(self, seed: int):
+    def __init__(self, seed: int, home: str):
         self.random, self.draw = random.Random(f"editor {seed}"), Draw(seed)
         self.profile = self.one(b"", b"", b"", b"--wide", b"--prototypes")
         self.folder = self.one(*FOLDERS) if self.chance(0.25) else None
@@ -116,7 +123,21 @@ class Editor:
         names = self.random.sample(NAMES, self.one(0, 1, 2, 3, 5, 8))[: self.bounds.files]
         texts = {name: self.text()[: self.bounds.file_bytes] for name in names}
         self.files = texts
-        self.server = Server(self.bounds, self.profile, self.folder and self.folder.encode())
+        self.next: list[dict] = []  # what is to be sent before anything else is drawn
+        self.is_renaming = False  # the next ones rename
+        self.edited: dict[bytes, list[bytes]] = {}  # the names that files have to use then
+        # where files are read again the root is a folder of its own
+        self.home = home if self.chance(0.4) else None
+        self.disk: dict[bytes, Optional[bytes]] = {}
+        if self.home is not None:
+            self.folder = self.home if self.chance(0.5) else None
+            for name in self.random.sample(NAMES, self.one(0, 3, 6, 9)):
+                path = f"{home}/{name}".encode()
+                text = self.files.get(name) if self.chance(0.2) else self.text()
+                more = b"x" * (self.bounds.file_bytes + 1)
+                self.disk[path] = self.one(*[text] * 20, more, None)
+        folder = self.folder and self.folder.encode()
+        self.server = Server(self.bounds, self.profile, folder, self.disk)
         self.server.world = self.server.world._replace(
             files={name.encode(): text for name, text in texts.items()}
         )
@@ -204,7 +225,8 @@ class Editor:
     def initialize(self) -> dict:
         params: dict = {}
         if self.chance(0.9):
-            params["rootUri"] = self.one(*ROOTS, *ROOTS[:3] * 3)
+            roots = [self.home and f"file://{self.home}"] if self.home else [*ROOTS, *ROOTS[:3] * 3]
+            params["rootUri"] = self.one(*roots)
         if self.chance(0.2):
             uri = self.one(*(it for it in ROOTS if it is None or str(it).startswith("file:///")))
             folders = [{"uri": uri}]
@@ -216,6 +238,12 @@ class Editor:
         if self.chance(0.5):
             tree = {"hierarchicalDocumentSymbolSupport": self.one(True, True, False, 1, "true")}
             capabilities["textDocument"] = {"documentSymbol": tree}
+        if self.chance(0.5):
+            asks = {"prepareSupport": self.one(True, True, False, 1, "true")}
+            capabilities.setdefault("textDocument", {})["rename"] = asks
+        if self.chance(0.4):
+            told = {"dynamicRegistration": self.one(True, True, False, 1, "true")}
+            capabilities["workspace"] = {"didChangeWatchedFiles": told}
         if self.chance(0.95):
             params["capabilities"] = capabilities
         return self.request("initialize", params)
@@ -270,14 +298,20 @@ class Editor:
     def close(self) -> dict:
         return self.notice("textDocument/didClose", {"textDocument": {"uri": self.uri()}})
 
-    def gone(self) -> dict:
-        number = self.one(1, 1, 2, 3)
-        changes = [{"uri": self.uri(), "type": self.one(1, 2, 3, 3, 3)} for _ in range(number)]
+    def watched(self) -> dict:
+        """File events, more often of files that are on disk."""
+        changes = []
+        for _ in range(self.one(1, 1, 2, 3)):
+            uri = self.uri()
+            if self.disk and self.chance(0.7):
+                uri = "file://" + self.escaped(self.one(*self.disk).decode())
+            changes.append({"uri": uri, "type": self.one(1, 2, 2, 3, 3)})
         return self.notice("workspace/didChangeWatchedFiles", {"changes": changes})
 
     def at_place(self) -> dict:
         uri = self.uri()
-        method = "textDocument/" + self.one("definition", "hover", "documentHighlight")
+        asks = "definition", "hover", "documentHighlight", "prepareCallHierarchy", "completion"
+        method = "textDocument/" + self.one(*asks)
         params = {"textDocument": {"uri": uri}, "position": self.position(uri)}
         return self.request(method, params)
 
@@ -289,11 +323,111 @@ class Editor:
             params["context"] = {"includeDeclaration": wanted}
         return self.request("textDocument/references", params)
 
+    def uri_of(self, name: bytes) -> str:
+        root = self.server.root.path.decode("utf-8", "replace")
+        path = "" if name.startswith(b"/") else f"{root}/"
+        return "file://" + self.escaped(path + name.decode())
+
+    def used(self) -> tuple[str, dict]:
+        """The URI of a file and a place there, more often that of a use of a defined name."""
+        definitions = {it.definition.name for it in self.server.places()}
+        places = [
+            (name, text, it.place)
+            for name, text in self.server.world.files.items()
+            for it in self.server.facts(text).uses
+            if it.name in definitions
+        ]
+        if not places or self.chance(0.3):
+            uri = self.uri()
+            return uri, self.position(uri)
+        name, text, place = self.one(*places)
+        line, column = position_of(text, place, self.server.is_utf16)
+        return self.uri_of(name), {"line": line, "character": column}
+
+    def rename(self) -> dict:
+        """A request that renames, or what leads to it: all files are opened before."""
+        if not self.is_renaming and self.server.world.files and self.chance(0.6):
+            self.is_renaming = True
+            for name, text in self.server.world.files.items():
+                document = {"uri": self.uri_of(name), "text": text.decode("utf-8", "replace")}
+                self.next.append(self.notice("textDocument/didOpen", {"textDocument": document}))
+            return self.next.pop(0)
+        self.is_renaming = self.is_renaming and self.chance(0.7)
+        uri, position = self.used()
+        params = {"textDocument": {"uri": uri}, "position": position}
+        if self.chance(0.3):
+            return self.request("textDocument/prepareRename", params)
+        if self.chance(0.97):
+            params["newName"] = self.one(*NEW_NAMES) if self.chance(0.95) else self.one(*WRONG)
+        return self.request("textDocument/rename", params)
+
+    def make_edits(self, reply: dict) -> None:
+        """Sends the edits of a reply as changes, from the last one of a file on, and notes which
+        names are used then."""
+        for uri, edits in reply["result"]["changes"].items():
+            name = self.server.file_of({"textDocument": {"uri": uri}})
+            text = self.server.world.files[name]
+            uses = self.server.facts(text).uses
+            names, ends = {it.place: it.name for it in uses}, ("line", "character")
+            for edit in edits:
+                start = [edit["range"]["start"][it] for it in ends]
+                names[place_of(text, *start, self.server.is_utf16)] = edit["newText"].encode()
+            self.edited[name] = [names[place] for place in sorted(names)]
+            changes = [{"range": it["range"], "text": it["newText"]} for it in reversed(edits)]
+            document = {"uri": uri, "version": 3}
+            self.next.append(
+                self.notice(
+                    "textDocument/didChange", {"textDocument": document, "contentChanges": changes}
+                )
+            )
+
+    def follow(self, written: bytes) -> None:
+        """What a client does after what the server wrote."""
+        while self.edited and not self.next:
+            name, names = self.edited.popitem()
+            text = self.server.world.files[name]
+            if self.server.documents[name].is_lost:
+                continue  # it is too large then
+            if names != [it.name for it in self.server.facts(text).uses]:
+                raise Difference(f"{name!r} does not use {names} after its edits: {text!r}")
+        if b'"result":{"changes":{' in written and self.chance(0.7):
+            self.make_edits(json.loads(written.partition(b"\r\n\r\n")[2]))
+
     def symbols(self) -> dict:
         return self.request("textDocument/documentSymbol", {"textDocument": {"uri": self.uri()}})
 
     def all_symbols(self) -> dict:
         return self.request("workspace/symbol", {"query": self.one(*QUERIES)})
+
+    def calls(self) -> dict:
+        """Who calls a name."""
+        item = {"name": self.one(*QUERIES), "kind": 12, "uri": self.uri()}
+        return self.request("callHierarchy/incomingCalls", {"item": item})
+
+    def calling(self) -> tuple[str, str, dict]:
+        """A name, and a place of a file by its URI: more often those of one that calls."""
+        callers = [
+            (name, text, it.caller, it.caller_place)
+            for name, text in self.server.world.files.items()
+            for it in self.server.facts(text).calls
+        ]
+        if not callers or self.chance(0.1):
+            uri = self.uri()
+            return self.one(*QUERIES), uri, self.position(uri)
+        file, text, caller, place = self.one(*callers)
+        line, column = position_of(text, place, self.server.is_utf16)
+        position = {"line": line, "character": column}
+        odd = self.one("", "", "", "", "name", "place")
+        if odd == "place":
+            position[self.one("line", "character")] += 1
+        name = self.one(*WORDS) if odd == "name" else caller.decode("utf-8", "replace")
+        return name, self.uri_of(file), position
+
+    def callees(self) -> dict:
+        """What a function or macro calls."""
+        name, uri, position = self.calling()
+        item = {"name": name, "uri": uri, "selectionRange": {"start": position, "end": position}}
+        return self.request("callHierarchy/outgoingCalls", {"item": item})
 
     def other(self) -> dict:
         if self.chance(0.5):
@@ -303,7 +437,9 @@ class Editor:
     def wrong(self) -> dict:
         """A message of which one member, at any depth, has another value or is missing."""
         documents = self.open, self.change, self.save, self.close
-        made = self.one(*documents, self.at_place, self.references, self.symbols, self.initialize)()
+        places = self.at_place, self.references, self.rename, self.symbols
+        calls = self.calls, self.callees
+        made = self.one(*documents, *places, *calls, self.initialize)()
         inside, name = made, self.one("params", "params", "params", "id", "method")
         while name in inside:
             value = inside[name]
@@ -322,6 +458,10 @@ class Editor:
     def message(self) -> bytes:
         """The body of a message."""
         phase = self.server.phase
+        if self.next:
+            return json.dumps(self.next.pop(0)).encode()
+        if self.is_renaming:
+            return self.encoded(self.rename())
         if phase == "fresh" and self.chance(0.8):
             return self.encoded(self.initialize())
         weights = {
@@ -329,11 +469,14 @@ class Editor:
             self.change: 8 if self.server.documents else 1,
             self.save: 2,
             self.close: 2 if self.server.documents else 0.3,
-            self.gone: 1,
+            self.watched: 4 if self.disk else 1,
             self.at_place: 14,
             self.references: 6,
+            self.rename: 4,
             self.symbols: 5,
             self.all_symbols: 4,
+            self.calls: 4,
+            self.callees: 5,
             self.other: 1,
             self.wrong: 2,
             self.initialize: 0.2,
@@ -389,8 +532,10 @@ class Editor:
         while left and is_open:
             body = self.message()
             more = self.framed(body)
+            before = len(self.server.out)
             try:
                 self.server.take(body)
+                self.follow(self.server.out[before:])
             except Ended:
                 is_open = self.chance(0.1)  # what comes after the end is not read
             data, left = data + more, left - 1
@@ -406,8 +551,8 @@ class Editor:
             words += self.one(["--root", self.folder], [f"--root={self.folder}"])
         words += ["--", *self.files]
         folder = self.folder and self.folder.encode()
-        how = {"bounds": self.bounds, "profile": self.profile, "folder": folder}
-        return Session(words, self.files, data, how)
+        how = {"bounds": self.bounds, "profile": self.profile, "folder": folder, "disk": self.disk}
+        return Session(words, self.files, self.disk, data, how)
 
 
 # ---- runs
@@ -416,10 +561,14 @@ class Editor:
 def run(cbrowse: str, session: Session, pieces: random.Random) -> Outcome:
     """The program over a session, which comes in pieces that it reads one by one."""
     with tempfile.TemporaryDirectory() as home, tempfile.TemporaryFile() as out:
-        for name, text in session.files.items():
-            path = pathlib.Path(home, name)
+        files = {os.path.join(home, name): text for name, text in session.files.items()}
+        for name, text in (files | session.disk).items():
+            path = pathlib.Path(os.fsdecode(name))
             path.parent.mkdir(parents=True, exist_ok=True)
-            path.write_bytes(text)
+            if text is None:
+                path.mkdir(exist_ok=True)
+            else:
+                path.write_bytes(text)
         near, far = os.pipe2(os.O_CLOEXEC | os.O_DIRECT)
         how = {"stdin": near, "stdout": out, "stderr": subprocess.PIPE, "cwd": home}
         started = subprocess.Popen([cbrowse, *session.words], **how)
@@ -439,7 +588,12 @@ def run(cbrowse: str, session: Session, pieces: random.Random) -> Outcome:
 
 def compare(cbrowse: str, seed: int) -> tuple[collections.Counter, collections.Counter]:
     """Compares one session; how often each message was sent, and each reply came."""
-    session = Editor(seed).session()
+    with tempfile.TemporaryDirectory() as home:
+        return compare_in(home, cbrowse, seed)
+
+
+def compare_in(home: str, cbrowse: str, seed: int):
+    session = Editor(seed, home).session()
     operands = [(name.encode(), text) for name, text in session.files.items()]
     expected = serve(operands, session.data, **session.how)
     found = run(cbrowse, session, random.Random(seed))
@@ -463,7 +617,7 @@ def compare(cbrowse: str, seed: int) -> tuple[collections.Counter, collections.C
         )
     methods = re.findall(rb'"method" ?:\s*"([^"]*)"', session.data)
     sent = collections.Counter(it.replace(b"\\/", b"/") or b"none" for it in methods)
-    kinds = rb'"(?:message|result)":("[^"]{0,40}|null|\[\]|\[|\{"[a-z]+")'
+    kinds = rb'"(?:message|result)":("[^"]{0,40}|null|\[\]|\[|\{"[A-Za-z]+")'
     came = re.sub(rb"cbrowse: \S+:", b"cbrowse: NAME:", expected.out)
     told = collections.Counter(re.findall(kinds, came))
     told[b"status %d %s" % (expected.status, expected.error.strip())] += 1

@@ -20,14 +20,20 @@ from text_model import RESERVED, cut_lines, header, parts_of
 
 sys.set_int_max_str_digits(0)
 MOST_HEAD, MOST_BODY, MOST_DEPTH = 4_096, 16_000_000, 128
-MOST_SYMBOLS, MOST_HOVERED = 1_000, 8
+MOST_SYMBOLS, MOST_HOVERED, MOST_COMPLETIONS = 1_000, 8, 1_000
 WELCOME = (
     b'{"capabilities":{"positionEncoding":"%s",'
     b'"textDocumentSync":{"openClose":true,"change":2,"save":true},"hoverProvider":true,'
+    b'"completionProvider":{},'
     b'"definitionProvider":true,"referencesProvider":true,'
     b'"documentHighlightProvider":true,"documentSymbolProvider":true,'
-    b'"workspaceSymbolProvider":true},'
+    b'"workspaceSymbolProvider":true,"renameProvider":%s,"callHierarchyProvider":true},'
     b'"serverInfo":{"name":"cbrowse","version":"0.1.0"}}'
+)
+# which files a client is asked to tell of
+WATCHERS = (
+    b'{"registrations":[{"id":"files","method":"workspace/didChangeWatchedFiles",'
+    b'"registerOptions":{"watchers":[{"globPattern":"**/*.[ch]"}]}}]}'
 )
 # by the letters of definitions: functions, macros, typedefs, structures, unions, enumerations;
 # enumerators, members, variables, external declarations, prototypes
@@ -43,6 +49,19 @@ KINDS = {
     b"v": 13,
     b"x": 13,
     b"p": 12,
+}
+COMPLETION_KINDS = {
+    b"f": 3,
+    b"d": 21,
+    b"t": 7,
+    b"s": 22,
+    b"u": 22,
+    b"g": 13,
+    b"e": 20,
+    b"m": 5,
+    b"v": 6,
+    b"x": 6,
+    b"p": 3,
 }
 PROFILES: dict[bytes, Callable] = {
     b"": text_model.facts,
@@ -390,12 +409,14 @@ class Place(NamedTuple):
 class Server:
     """The state of a server, and what it has written."""
 
-    def __init__(self, bounds=Bounds(), profile=b"", folder=None):
+    def __init__(self, bounds=Bounds(), profile=b"", folder=None, disk=None):
         self.world, self.documents = World({}, bounds=bounds), {}
+        self.disk = disk or {}  # files by their paths, and folders, which have no bytes
         self.facts = PROFILES[profile]
         self.root = Root() if folder is None else root_of_words(folder)
         self.is_root_given = folder is not None
         self.phase, self.is_utf16, self.is_tree = "fresh", True, False
+        self.watches = False
         self.out = b""
 
     # ---- what is written
@@ -457,6 +478,7 @@ class Server:
         if method == "exit":
             raise Ended(0 if self.phase == "down" else 1, b"")
         notices = {
+            "initialized": self.initialized,
             "textDocument/didOpen": self.did_open,
             "textDocument/didChange": self.did_change,
             "textDocument/didSave": self.did_save,
@@ -487,9 +509,15 @@ class Server:
             "textDocument/definition": self.definition,
             "textDocument/hover": self.hover,
             "textDocument/references": self.references,
+            "textDocument/prepareRename": self.prepare_rename,
+            "textDocument/rename": self.rename,
             "textDocument/documentHighlight": self.highlights,
             "textDocument/documentSymbol": self.document_symbol,
             "workspace/symbol": self.workspace_symbol,
+            "textDocument/completion": self.completion,
+            "textDocument/prepareCallHierarchy": self.prepare_calls,
+            "callHierarchy/incomingCalls": self.incoming_calls,
+            "callHierarchy/outgoingCalls": self.outgoing_calls,
         }
         if method not in results:
             raise Error(-32601, b"unknown method")
@@ -511,7 +539,15 @@ class Server:
         self.is_utf16 = not (isinstance(encodings, list) and "utf-8" in encodings)
         names = "capabilities", "textDocument", "documentSymbol"
         self.is_tree = member(params, *names, "hierarchicalDocumentSymbolSupport") is True
-        return WELCOME % (b"utf-16" if self.is_utf16 else b"utf-8")
+        names = "capabilities", "workspace", "didChangeWatchedFiles", "dynamicRegistration"
+        self.watches = member(params, *names) is True
+        names = "capabilities", "textDocument", "rename", "prepareSupport"
+        renaming = b'{"prepareProvider":true}' if member(params, *names) is True else b"true"
+        return WELCOME % (b"utf-16" if self.is_utf16 else b"utf-8", renaming)
+
+    def initialized(self, _):
+        if self.watches:
+            self.put(b'"id":"watch","method":"client/registerCapability","params":' + WATCHERS)
 
     def shutdown(self, _):
         self.phase = "down"
@@ -585,8 +621,17 @@ class Server:
         name = self.file_of(params)
         if name in self.documents:
             kept = self.documents.pop(name).kept
-            if kept is not None:
-                self.store(name, kept)
+            self.read_again(name, path_of(string_of(params, "textDocument", "uri")), kept)
+
+    def read_again(self, name, path, other=None):
+        """Gives a file what is on disk, or another text where nothing is there."""
+        text = self.disk.get(path, other)
+        if path in self.disk and text is None:
+            self.show(name, b"cannot be read")
+        elif text is not None:
+            refusal = self.store(name, text)
+            if refusal is not None:
+                self.show(name, refusal)
 
     def did_change_watched(self, params):
         changes = member(params, "changes")
@@ -594,11 +639,17 @@ class Server:
             return
         for change in changes:
             kind, uri = member(change, "type"), member(change, "uri")
-            if not isinstance(uri, str) or kind != Number("3", True):
+            if not isinstance(uri, str) or not isinstance(kind, Number):
                 continue
-            name = self.file_of({"textDocument": {"uri": uri}})
-            if name in self.world.files and name not in self.documents:
+            path = path_of(uri.encode())
+            name = None if path is None else self.root.name_in(path)
+            if name is None or name in self.documents:
+                continue
+            may_come = is_file_name(name) and name != path
+            if kind.value == 3 and name in self.world.files:
                 self.world = drop(self.world, name)
+            elif kind.value in (1, 2) and (name in self.world.files or may_come):
+                self.read_again(name, path)
 
     # ---- answers
 
@@ -626,6 +677,11 @@ class Server:
         if file in private:
             return [it for it in named if it.file == file]
         return [it for it in named if it.file not in private] or named
+
+    def reached(self, file, name):
+        """The files that the reach of a name has, from a file."""
+        private = self.named(name)[1]
+        return [file] if file in private else sorted({*self.world.files} - private)
 
     def span_of(self, file, place, name):
         """The range of a name that begins at a place of a file."""
@@ -710,16 +766,60 @@ class Server:
             return b"null"
         word = word_at(text, place)
         name = text[word[0] : word[1]] if word else None
-        named, private = self.named(name)
+        named = self.named(name)[0]
         declared = set() if is_wanted else {(it.file, it.definition.place) for it in named}
-        files = [file] if file in private else sorted({*self.world.files} - private)
         places = [
             (it, use.place)
-            for it in files
+            for it in self.reached(file, name)
             for use in self.facts(self.world.files[it]).uses
             if use.name == name and (it, use.place) not in declared
         ]
         return listed(self.location(it, self.span_of(it, place, name)) for it, place in places)
+
+    def renamable(self, params):
+        """The file of a request, its text, and the word at its place, if that may be renamed."""
+        file, text, place = self.asked(params)
+        word = None if file is None else word_at(text, place)
+        if word is not None:
+            name = text[word[0] : word[1]]
+            used = (word[0], name) in [(it.place, it.name) for it in self.facts(text).uses]
+            word = word if used and self.named(name)[0] else None
+        return file, text, word
+
+    def prepare_rename(self, params):
+        _, text, word = self.renamable(params)
+        return b"null" if word is None else range_form(text, *word, self.is_utf16)
+
+    def rename(self, params):
+        new = string_of(params, "newName")
+        file, text, word = self.renamable(params)
+        if word is None:
+            raise Error(-32803, b"no such definition")
+        if not re.fullmatch(rb"[A-Za-z_][A-Za-z0-9_]*", new) or new in RESERVED:
+            raise Error(-32803, b"bad name")
+        name, uses = text[word[0] : word[1]], {}
+        _, private = self.named(name)
+        for it in sorted(self.world.files):
+            found = self.facts(self.world.files[it]).uses
+            if any(use.name == new for use in found):
+                raise Error(-32803, b"name is used already")
+            if it == file if file in private else it not in private:
+                uses[it] = [use.place for use in found if use.name == name]
+        files = [it for it, places in uses.items() if places]
+        for it in files:
+            if it not in self.documents or self.documents[it].is_lost:
+                raise Error(-32803, quoted(b"not open: " + it)[1:-1])
+        edits = [
+            b"%s:%s" % (quoted(self.root.uri_of(it)), self.edits(it, uses[it], name, new))
+            for it in files
+        ]
+        return b'{"changes":{%s}}' % b",".join(edits)
+
+    def edits(self, file, places, name, new):
+        return listed(
+            b'{"range":%s,"newText":%s}' % (self.span_of(file, it, name), quoted(new))
+            for it in places
+        )
 
     def highlights(self, params):
         file, text, place = self.asked(params)
@@ -731,6 +831,89 @@ class Server:
         return listed(
             b'{"range":%s}' % range_form(text, it, it + len(name), self.is_utf16) for it in found
         )
+
+    def completion(self, params):
+        file, text, place = self.asked(params)
+        if file is None:
+            return b"null"
+        word = re.search(rb"\w*\Z", text[:place])[0]
+        kinds: dict = {}  # by name: that of the first definition
+        for it in self.places():
+            if word and it.definition.name.startswith(word):
+                kinds.setdefault(it.definition.name, COMPLETION_KINDS[it.definition.kind])
+        told = sorted(kinds)[:MOST_COMPLETIONS]
+        items = (b'{"label":%s,"kind":%d}' % (quoted(it), kinds[it]) for it in told)
+        more = b"true" if len(kinds) > MOST_COMPLETIONS else b"false"
+        return b'{"isIncomplete":%s,"items":%s}' % (more, listed(items))
+
+    def item(self, place):
+        """A function or macro of a call hierarchy."""
+        return b'{"name":%s,"kind":%d,"uri":%s,"range":%s,"selectionRange":%s}' % (
+            quoted(place.definition.name),
+            KINDS[place.definition.kind],
+            quoted(self.root.uri_of(place.file)),
+            self.line_of(place),
+            self.range_of(place),
+        )
+
+    def prepare_calls(self, params):
+        file, text, place = self.asked(params)
+        word = word_at(text, place)
+        if file is None or word is None:
+            return b"null"
+        meant = self.callable(file, text[word[0] : word[1]])
+        return listed(self.item(it) for it in meant) if meant else b"null"
+
+    def callable(self, file, name):
+        """The functions and macros that a name means in a file."""
+        return [it for it in self.meant(file, name) if it.definition.kind in (b"f", b"d")]
+
+    def item_of(self, params):
+        """The name and the file of an item, where there is such a file."""
+        name, path = string_of(params, "item", "name"), path_of(string_of(params, "item", "uri"))
+        file = None if path is None else self.root.name_in(path)
+        return name, file if file in self.world.files else None
+
+    def incoming_calls(self, params):
+        name, file = self.item_of(params)
+        if file is None:
+            return b"null"
+        groups: dict = {}
+        for other in self.reached(file, name):
+            for call in self.facts(self.world.files[other]).calls:
+                if call.callee == name:
+                    span = self.span_of(other, call.place, name)
+                    groups.setdefault((other, call.caller_place), []).append(span)
+        rows = []
+        for (other, place), spans in sorted(groups.items()):
+            named = self.facts(self.world.files[other]).definitions
+            caller = next(it for it in named if it.place == place)
+            item = self.item(Place(other, caller))
+            rows.append(b'{"from":%s,"fromRanges":%s}' % (item, listed(spans)))
+        return listed(rows)
+
+    def outgoing_calls(self, params):
+        string_of(params, "item", "name")
+        string_of(params, "item", "uri")
+        line, column = (
+            natural(params, "item", "selectionRange", "start", it) for it in ("line", "character")
+        )
+        name, file = self.item_of(params)
+        if file is None:
+            return b"null"
+        text = self.world.files[file]
+        place = place_of(text, line, column, self.is_utf16)
+        groups: dict = {}
+        for call in self.facts(text).calls:
+            if (call.caller_place, call.caller) == (place, name):
+                span = self.span_of(file, call.place, call.callee)
+                groups.setdefault(call.callee, []).append(span)
+        rows = [
+            b'{"to":%s,"fromRanges":%s}' % (self.item(it), listed(spans))
+            for callee, spans in groups.items()
+            for it in self.callable(file, callee)
+        ]
+        return listed(rows)
 
     def document_symbol(self, params):
         file = self.file_of(params)

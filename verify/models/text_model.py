@@ -369,6 +369,8 @@ class Call(NamedTuple):
     callee: bytes
     line: int
     caller: bytes
+    place: int  # of the called name
+    caller_place: int
 
 
 class Include(NamedTuple):
@@ -463,7 +465,7 @@ def facts_of(parts, own_functions, named, kinds):
     used.sort(key=lambda token: token.place)
 
     calls = [
-        (one.body[index], one.name.text)
+        (one.body[index], one.name)
         for one in own_functions + own_macros
         for index in called(one.body)
     ]
@@ -478,6 +480,9 @@ def facts_of(parts, own_functions, named, kinds):
             Use(token.text, line_of(token.place), scopes.at(token.place), token.place)
             for token in used
         ],
-        [Call(token.text, line_of(token.place), caller) for token, caller in calls],
+        [
+            Call(token.text, line_of(token.place), caller.text, token.place, caller.place)
+            for token, caller in calls
+        ],
         [Include(name, line_of(place), scopes.at(place)) for place, name in headers if name],
     )

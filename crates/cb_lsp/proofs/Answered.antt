@@ -14,7 +14,7 @@ use Rattle.cb_wire.specs.Welcome.{welcome}
 use Rattle.cb_lsp.specs.declared.server.Stage.TheVariants.{Running}
 use Rattle.cb_lsp.specs.Messages.{Outcome, Serving, client_of, encoding_for, initialized, replies}
 use Rattle.cb_lsp.specs.Messages.{stays, with_root}
-use Rattle.cb_lsp.specs.Params.{takes_trees}
+use Rattle.cb_lsp.specs.Params.{prepares_renames, takes_trees, takes_watchers}
 use Rattle.cb_lsp.specs.Bodies.{written_text}
 use Rattle.cb_lsp.specs.Bodies.{Does}
 
@@ -32,30 +32,41 @@ does-one s next j old new r stays put =
 -- ---- a client that is initialized
 
 -- a server that is told what its client takes
-abbrev pub told_client : Encoding → Bool → Serving → Serving
-told_client encoding tree s = record s {
+abbrev pub told_client : Encoding → (tree watches : Bool) → Serving → Serving
+told_client encoding tree watches s = record s {
   client = record { root = s.client.root; encoding = encoding; tree = tree };
   stage = Running;
+  watches = watches;
 }
 
 pub initialized-does : {A E : Type 0} (old next held : Serving) (params : Option Json) (id : Json)
-    (encoding : Encoding) (tree : Bool) (version : List ℕ) (before after : Writer)
+    (encoding : Encoding) (tree watches prepares : Bool) (version : List ℕ) (before after : Writer)
     (r : Result A E)
     → held ≡ with_root old params → encoding ≡ encoding_for params → tree ≡ takes_trees params
-    → version ≡ held.version → next ≡ told_client encoding tree held
-    → Puts before after r (frame (value_text (result_reply id (welcome encoding version))))
+    → watches ≡ takes_watchers params → prepares ≡ prepares_renames params → version ≡ held.version
+    → next ≡ told_client encoding tree watches held
+    → Puts before after r (frame (value_text (result_reply id (welcome encoding prepares version))))
     → Does (initialized false old id params) next before after r
-initialized-does old next held params id encoding tree version before after r rooted counts forms
-    named is put =
-    let to : Serving = record old { client = client_of old params; stage = Running } in
-    let same : told_client encoding tree held ≡ to =
-    ap (told_client encoding tree) rooted
-    ∙ ap (λ e. told_client e tree (with_root old params)) counts
-    ∙ ap (λ t. told_client (encoding_for params) t (with_root old params)) forms in
-    let says = ap (λ e. welcome e version) counts
-    ∙ ap (λ v. welcome (encoding_for params) v) (named ∙ ap (λ (s : Serving). s.version) rooted) in
-    does-one to next (result_reply id (welcome (encoding_for params) old.version)) before after r
-    (is ∙ same) (subst (λ w. Puts before after r (frame (value_text (result_reply id w)))) says put)
+initialized-does old next held params id encoding tree watches prepares version before after r rooted
+    counts forms tells asks named is put =
+    let to : Serving = record old {
+      client = client_of old params;
+      stage = Running;
+      watches = takes_watchers params;
+    } in
+    let same : told_client encoding tree watches held ≡ to =
+    ap (told_client encoding tree watches) rooted
+    ∙ ap (λ e. told_client e tree watches (with_root old params)) counts
+    ∙ ap (λ t. told_client (encoding_for params) t watches (with_root old params)) forms
+    ∙ ap (λ t. told_client (encoding_for params) (takes_trees params) t (with_root old params)) tells
+    in
+    let says = ap (λ e. welcome e prepares version) counts
+    ∙ ap (λ p. welcome (encoding_for params) p version) asks
+    ∙ ap (λ v. welcome (encoding_for params) (prepares_renames params) v)
+    (named ∙ ap (λ (s : Serving). s.version) rooted) in
+    does-one to next (result_reply id (welcome (encoding_for params) (prepares_renames params)
+    old.version)) before after r (is ∙ same)
+    (subst (λ w. Puts before after r (frame (value_text (result_reply id w)))) says put)
 
 -- ---- outcomes that are the same
 

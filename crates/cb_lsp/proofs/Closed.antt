@@ -10,14 +10,14 @@ use Rattle.cb_desk.specs.Refusals.{text_of}
 use Rattle.cb_desk.specs.World.{File, text_of_file}
 use Rattle.cb_wire.specs.declared.units.Encoding.{Encoding}
 use Rattle.cb_lsp.specs.Changes.{TextChange, text_by}
-use Rattle.cb_lsp.specs.Documents.{Document, Work, after_close, changed, changed_into}
-use Rattle.cb_lsp.specs.Documents.{closed, closed_to, document_of, if_open, is_open, kept_from}
+use Rattle.cb_lsp.specs.Documents.{Document, Reading, Work, changed, changed_into, closed}
+use Rattle.cb_lsp.specs.Documents.{document_of, given_found, if_open, is_open, kept_from, kept_text}
 use Rattle.cb_lsp.specs.Documents.{lost, nothing, present, taken, text, text_of_document, text_step}
 use Rattle.cb_lsp.specs.Documents.{text_unless, told_unless, was_lost, with_document}
 use Rattle.cb_lsp.specs.Documents.{without_document}
-use Rattle.cb_lsp.specs.steps.Noted.{is_present, kept_text, noted, text_again, with_any, with_noted}
-use Rattle.cb_lsp.specs.steps.Works.{changed_named, kept_before, text_at}
-use Rattle.cb_lsp.proofs.DocumentPlaces.{kept-all, same-document}
+use Rattle.cb_lsp.specs.steps.Noted.{is_present, noted, text_again, with_any, with_noted}
+use Rattle.cb_lsp.specs.steps.Works.{changed_named, kept_before, one_change, text_at}
+use Rattle.cb_lsp.proofs.DocumentPlaces.{same-document}
 use Rattle.cb_lsp.proofs.Opened.{closed-document, document, open-document, told_of}
 
 -- ---- a document that is changed
@@ -168,79 +168,27 @@ module _ (e : Encoding) where
 
 -- ---- a document that is closed
 
-pub close-nothing : (inner w : Work) (name : List ℕ) (ds : List Document) → inner ≡ w
+pub close-unopened : (m : Bool) (f : Reading) (inner w : Work) (name : List ℕ) → inner ≡ w
+    → is_open inner.documents name ≡ false
+    → (n : Bool) × (told_of w.world w.documents None ≡ closed (one_change n f) w name)
+close-unopened m f inner w name is no_document =
+    let none : is_open w.documents name ≡ false =
+    ap (λ (x : Work). is_open x.documents name) (sym is) ∙ no_document in
+    (m, rw (closed-document name w.documents none) refl)
+
+-- its file is given what is found, or else what was kept
+pub close-given : (m : Bool) (f : Reading) (inner w v : Work) (name : List ℕ) (ds : List Document)
+    (kept : Option (List ℕ)) (told : Option (List ℕ)) → inner ≡ w
+    → is_open inner.documents name ≡ true
     → ds ≡ without_document name inner.documents
-    → None ≡ text_again (document_of inner.documents name)
-    → (ms : List Bool) × (told_of inner.world ds None ≡ closed ms w name)
-close-nothing inner w name ds is gone none = (
-  [],
-  subst
-      (λ x. told_of inner.world ds None ≡ closed [] x name) is (rw gone (
-      (elim (document_of inner.documents name) as
-      (λ o. document_of inner.documents name ≡ o → None ≡ text_again o
-      → told_of inner.world (without_document name inner.documents) None
-      ≡ if_open (λ d. closed_to false inner name d.kept) inner o) [
-        | None ↦ λ e k. ap (λ xs. told_of inner.world xs None) (kept-all name inner.documents e)
-        | Some d ↦ λ e k.
-            (elim d.kept as (λ q. None ≡ kept_text q
-            → told_of inner.world (without_document name inner.documents) None
-            ≡ closed_to false inner name q) [
-              | nothing ↦ λ h. refl
-              | present ↦ λ h. refl
-              | text bytes ↦ λ h. cc
-            ]) k
-      ]) refl none)),
-)
-
--- the file is given the text that was kept
-text-kept : (m : Bool) (w : Work) (name bytes : List ℕ) (o : Option Document)
-    → Some bytes ≡ text_again o
-    → if_open (λ d. closed_to m w name d.kept) w o
-    ≡ after_close w name (taken m w.world (text_step w.world.files name bytes))
-text-kept m w name bytes None h = cc
-text-kept m w name bytes (Some d) h =
-    (elim d.kept as (λ q. Some bytes ≡ kept_text q
-    → closed_to m w name q
-    ≡ after_close w name (taken m w.world (text_step w.world.files name bytes))) [
-      | nothing ↦ λ k. cc
-      | present ↦ λ k. cc
-      | text other ↦ λ k.
-          let same : other ≡ bytes = cc in
-          ap (λ x. after_close w name (taken m w.world (text_step w.world.files name x))) same
-    ]) h
-
-pub close-done : (m : Bool) (inner w v : Work) (name bytes : List ℕ) (ds : List Document)
-    → inner ≡ w → ds ≡ without_document name inner.documents
-    → Some bytes ≡ text_again (document_of inner.documents name)
-    → (taken m inner.world (text_step inner.world.files name bytes) ≡ Ok v.world)
-    × (v.documents ≡ ds)
-    → (ms : List Bool) × (told_of v.world v.documents None ≡ closed ms w name)
-close-done m inner w v name bytes ds is gone keeps done = (
-  m ∷ [],
-  subst (λ x. told_of v.world v.documents None ≡ closed (m ∷ []) x name) is
-      (rw (
-        text-kept m inner name bytes (document_of inner.documents name) keeps,
-        done.0,
-        done.1 ∙ gone,
-      ) refl),
-)
-
-pub close-refused : (m : Bool) (inner w v : Work) (name bytes said : List ℕ)
-    (ds : List Document) (why : Refusal) → inner ≡ w
-    → ds ≡ without_document name inner.documents
-    → Some bytes ≡ text_again (document_of inner.documents name)
-    → (taken m inner.world (text_step inner.world.files name bytes) ≡ Err why)
-    × (v ≡ record { world = inner.world; documents = ds })
-    → said ≡ text_of why
-    → (ms : List Bool) × (told_of v.world v.documents (Some said) ≡ closed ms w name)
-close-refused m inner w v name bytes said ds why is gone keeps done says = (
-  m ∷ [],
-  subst (λ x. told_of v.world v.documents (Some said) ≡ closed (m ∷ []) x name) is
-      (rw (
-        text-kept m inner name bytes (document_of inner.documents name) keeps,
-        done.0,
-        done.1,
-        gone,
-        says,
-      ) refl),
-)
+    → kept ≡ text_again (document_of inner.documents name)
+    → told_of v.world v.documents told
+    ≡ given_found f m (record { world = inner.world; documents = ds }) name kept
+    → (n : Bool) × (told_of v.world v.documents told ≡ closed (one_change n f) w name)
+close-given m f inner w v name ds kept told is opens left keeps given =
+    let (d, here) = open-document name inner.documents opens in
+    let kept-is : kept ≡ kept_text d.kept = keeps ∙ ap text_again here in (
+      m,
+      subst (λ (x : Work). told_of v.world v.documents told ≡ closed (one_change m f) x name) is
+          (given ∙ rw (here, left, kept-is) refl),
+    )

@@ -10,31 +10,56 @@ use Rattle.cb_tags.specs.Writing.{PutsAll, PutsPrefix}
 use Rattle.cb_tags.proofs.Prefixes.{PutsAll-after, PutsAll-none, PutsPrefix-after, PutsPrefix-more}
 use Rattle.cb_wire.specs.Texts.{frame}
 use Rattle.cb_wire.specs.Values.{value_text}
-use Rattle.cb_lsp.specs.Messages.{Outcome, Serving, all_happened, and_then, happened}
-use Rattle.cb_lsp.specs.Messages.{happened_in, removed_of, stays}
-use Rattle.cb_lsp.specs.Params.{is_deletion, text_in}
+use Rattle.cb_wire.specs.Uris.{path_of}
+use Rattle.cb_lsp.specs.declared.notice.FileEvent.{FileEvent}
+use Rattle.cb_lsp.specs.declared.notice.FileEvent.TheVariants.{Written, Gone}
+use Rattle.cb_lsp.specs.Documents.{Reading, Oracle}
+use Rattle.cb_lsp.specs.Messages.{Outcome, Serving, all_happened, and_then, happened, happened_as}
+use Rattle.cb_lsp.specs.Messages.{happened_at, happened_in, happened_to, unread}
+use Rattle.cb_lsp.specs.Params.{event_of, text_in}
+use Rattle.cb_lsp.specs.steps.Works.{one_change, one_event}
 use Rattle.cb_lsp.specs.Bodies.{written_text}
 use Rattle.cb_lsp.specs.Bodies.{Does}
 
--- the first two parts of what is said of memory are those of the first event
-removed-two : (m n : Bool) (more : List Bool) (s : Serving) (uri : Option (List ℕ))
-    → removed_of (m ∷ n ∷ more) s uri ≡ removed_of (m ∷ n ∷ []) s uri
-removed-two m n more s None = refl
-removed-two m n more s (Some uri) = refl
+-- nothing is decided; and what is decided for an event, before what is decided for more
+abbrev quiet : Oracle
+quiet = record { refusals = []; found = [] }
 
-happened-two : (m n : Bool) (more : List Bool) (s : Serving) (event : Json)
-    → happened (m ∷ n ∷ more) s event ≡ happened (m ∷ n ∷ []) s event
-happened-two m n more s event =
-    ap (λ o. if is_deletion event then o else stays s)
-    (removed-two m n more s (text_in (get (codes "uri") event)))
+abbrev first_of_all : (m n : Bool) → Reading → Oracle → Oracle
+first_of_all m n f more = record { refusals = m ∷ n ∷ more.refusals; found = f ∷ more.found }
 
-all-first : (m n : Bool) (more : List Bool) (s : Serving) (event : Json) (left : Items)
-    → all_happened (m ∷ n ∷ more) s (item event left)
-    ≡ and_then (happened (m ∷ n ∷ []) s event)
-    (all_happened more (happened (m ∷ n ∷ []) s event).server left)
+-- that is what is decided for the first event
+at-first : (kind : FileEvent) (n : Bool) (f : Reading) (more : Oracle) (s : Serving)
+    (path : Option (List ℕ))
+    → happened_at kind (record { refusals = n ∷ more.refusals; found = f ∷ more.found }) s path
+    ≡ happened_at kind (one_change n f) s path
+at-first Written n f more s None = refl
+at-first Written n f more s (Some path) = refl
+at-first Gone n f more s None = refl
+at-first Gone n f more s (Some path) = refl
+
+to-first : (kind : FileEvent) (m n : Bool) (f : Reading) (more : Oracle) (s : Serving)
+    (uri : Option (List ℕ))
+    → happened_to kind (first_of_all m n f more) s uri ≡ happened_to kind (one_event m n f) s uri
+to-first kind m n f more s None = refl
+to-first kind m n f more s (Some uri) =
+    ap (λ (o : Outcome). if m then unread s uri else o) (at-first kind n f more s (path_of uri))
+
+as-first : (kind : Option FileEvent) (m n : Bool) (f : Reading) (more : Oracle) (s : Serving)
+    (event : Json)
+    → happened_as kind (first_of_all m n f more) s event ≡ happened_as kind (one_event m n f) s event
+as-first None m n f more s event = refl
+as-first (Some kind) m n f more s event =
+    to-first kind m n f more s (text_in (get (codes "uri") event))
+
+all-first : (m n : Bool) (f : Reading) (more : Oracle) (s : Serving) (event : Json) (left : Items)
+    → all_happened (first_of_all m n f more) s (item event left)
+    ≡ and_then (happened (one_event m n f) s event)
+    (all_happened more (happened (one_event m n f) s event).server left)
 unfolding all_happened
-all-first m n more s event left =
-    ap (λ o. and_then o (all_happened more o.server left)) (happened-two m n more s event)
+all-first m n f more s event left =
+    ap (λ (o : Outcome). and_then o (all_happened more o.server left))
+    (as-first (event_of event) m n f more s event)
 
 -- what was written, and the server that it left
 abbrev pub so : Serving → List Json → Outcome
@@ -46,13 +71,12 @@ and-then-more : (s : Serving) (written : List Json) (o last : Outcome)
 and-then-more s written o last =
     ap (λ js. so last.server js) (sym (append_assoc written o.written last.written))
 
--- the events up to some that are left have happened; whatever is said of memory to those that are
--- left
+-- the events up to some that are left have happened; whatever is decided for those that are left
 abbrev pub HappenedSo : (start now : Serving) → (before after : Writer) → (events left : Items)
     → Type 0
 HappenedSo start now before after events left =
     (written : List Json) × PutsAll before after (written_text written)
-    × ((more : List Bool) → (all : List Bool)
+    × ((more : Oracle) → (all : Oracle)
     × (all_happened all start events ≡ and_then (so now written) (all_happened more now left)))
 
 pub so-begun : (s : Serving) (w : Writer) (events : Items) → HappenedSo s s w w events events
@@ -64,21 +88,21 @@ text-after written o = sym (flat_map-append (λ j. frame (value_text j)) written
 
 -- an event more, by its outcome
 pub so-more : {A E : Type 0} (start mid now : Serving) (before between after : Writer)
-    (events left : Items) (event : Json) (m n : Bool) (r : Result A E) (a : A) → r ≡ Ok a
+    (events left : Items) (event : Json) (m n : Bool) (f : Reading) (r : Result A E) (a : A) → r ≡ Ok a
     → HappenedSo start mid before between events (item event left)
-    → Does (happened (m ∷ n ∷ []) mid event) now between after r
+    → Does (happened (one_event m n f) mid event) now between after r
     → HappenedSo start now before after events left
-so-more start mid now before between after events left event m n r a ok so_far result =
-    let o = happened (m ∷ n ∷ []) mid event in
+so-more start mid now before between after events left event m n f r a ok so_far result =
+    let o = happened (one_event m n f) mid event in
     let does = subst (Does o now between after) ok result in (
       so_far.0 ++ o.written,
       subst (PutsAll before after) (text-after so_far.0 o)
           (PutsAll-after before between after (written_text so_far.0) (written_text o.written) so_far.1
           does.1),
       λ more.
-          let all = so_far.2 (m ∷ n ∷ more) in (
+          let all = so_far.2 (first_of_all m n f more) in (
             all.0,
-            all.1 ∙ ap (and_then (so mid so_far.0)) (all-first m n more mid event left)
+            all.1 ∙ ap (and_then (so mid so_far.0)) (all-first m n f more mid event left)
                 ∙ and-then-more mid so_far.0 o (all_happened more o.server left)
                 ∙ ap (λ s. and_then (so s (so_far.0 ++ o.written)) (all_happened more s left))
                 (sym does.0),
@@ -87,18 +111,19 @@ so-more start mid now before between after events left event m n r a ok so_far r
 
 -- the writer fails at an event
 pub so-fails : {A B E : Type 0} (start mid now : Serving) (before between after : Writer)
-    (events left : Items) (event : Json) (m n : Bool) (r : Result A E) (last : Result B E) (e : E)
+    (events left : Items) (event : Json) (m n : Bool) (f : Reading) (r : Result A E)
+    (last : Result B E) (e : E)
     → r ≡ Err e → last ≡ Err e
     → HappenedSo start mid before between events (item event left)
-    → Does (happened (m ∷ n ∷ []) mid event) now between after r
-    → (refusals : List Bool) × Does (all_happened refusals start events) now before after last
-so-fails start mid now before between after events left event m n r last e err same so_far
+    → Does (happened (one_event m n f) mid event) now between after r
+    → (o : Oracle) × Does (all_happened o start events) now before after last
+so-fails start mid now before between after events left event m n f r last e err same so_far
     result =
-    let o = happened (m ∷ n ∷ []) mid event in
+    let o = happened (one_event m n f) mid event in
     let does = subst (Does o now between after) err result in
-    let all = so_far.2 (m ∷ n ∷ []) in
-    let last_of = all_happened [] o.server left in
-    let is = all.1 ∙ ap (and_then (so mid so_far.0)) (all-first m n [] mid event left)
+    let all = so_far.2 (first_of_all m n f quiet) in
+    let last_of = all_happened quiet o.server left in
+    let is = all.1 ∙ ap (and_then (so mid so_far.0)) (all-first m n f quiet mid event left)
     ∙ and-then-more mid so_far.0 o last_of in
     let text : (written_text so_far.0 ++ written_text o.written) ++ written_text last_of.written
     ≡ written_text (all_happened all.0 start events).written =
@@ -120,13 +145,13 @@ so-fails start mid now before between after events left event m n r last e err s
 pub so-ends : (start now : Serving) (before after : Writer) (events left : Items)
     (list : Option Items) → Some events ≡ list
     → HappenedSo start now before after events left → left ≡ no_items
-    → (refusals : List Bool) × ((now ≡ (happened_in refusals start list).server)
-    × PutsAll before after (written_text (happened_in refusals start list).written))
+    → (o : Oracle) × ((now ≡ (happened_in o start list).server)
+    × PutsAll before after (written_text (happened_in o start list).written))
 unfolding all_happened
 so-ends start now before after events left list listed so_far none =
-    let all = so_far.2 [] in
+    let all = so_far.2 quiet in
     let is : all_happened all.0 start events ≡ so now so_far.0 =
-    all.1 ∙ ap (λ js. and_then (so now so_far.0) (all_happened [] now js)) none
+    all.1 ∙ ap (λ js. and_then (so now so_far.0) (all_happened quiet now js)) none
     ∙ ap (so now) (append-nil so_far.0) in
     let all_is : so now so_far.0 ≡ happened_in all.0 start list =
     sym is ∙ ap (happened_in all.0 start) listed in (
@@ -140,8 +165,8 @@ so-ends start now before after events left list listed so_far none =
 -- these are all events that there are
 pub in-list : {A E : Type 0} (start now : Serving) (before after : Writer) (events : Items)
     (list : Option Items) (r : Result A E) → Some events ≡ list
-    → ((refusals : List Bool) × Does (all_happened refusals start events) now before after r)
-    → (refusals : List Bool) × Does (happened_in refusals start list) now before after r
+    → ((o : Oracle) × Does (all_happened o start events) now before after r)
+    → (o : Oracle) × Does (happened_in o start list) now before after r
 in-list start now before after events list r is does =
-    subst (λ x. (refusals : List Bool) × Does (happened_in refusals start x) now before after r) is
+    subst (λ x. (o : Oracle) × Does (happened_in o start x) now before after r) is
     does

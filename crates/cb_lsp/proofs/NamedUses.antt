@@ -1,6 +1,6 @@
 -- The uses of a name that is asked for stand where they say.
-use Rattle.std.proofs.Common.{◌≡◌, ℕ, Bool, not, true, false, List, filter, map, subst, sym}
-use Rattle.std.specs.List.{AllByRecursion, flat_map}
+use Rattle.std.proofs.Common.{◌≡◌, ℕ, Bool, not, true, false, List, filter, subst, sym}
+use Rattle.std.specs.List.{AllByRecursion}
 use Rattle.std.specs.Str.{bytes_eq}
 use Rattle.cb_desk.proofs.PlaceLemmas.{same-name}
 use Rattle.cb_desk.proofs.Valid.{all-both, all-passed}

@@ -9,7 +9,7 @@ use Rattle.cb_wire.specs.declared.position.Position.{Position}
 use Rattle.cb_wire.specs.declared.units.Encoding.{Encoding}
 use Rattle.cb_wire.specs.Positions.{position}
 use Rattle.cb_wire.specs.Units.{characters_from}
-use Rattle.cb_lsp.specs.Places.{range_of, start_of_file}
+use Rattle.cb_lsp.specs.Places.{line_range, range_of, start_of_file}
 
 pub no-file : (files : List File) (name : List ℕ) → None ≡ text_named files name
     → text_of_file files name ≡ []
@@ -32,3 +32,8 @@ no-position e (suc n) = refl
 pub no-range : (e : Encoding) (start end : ℕ) → range_of e [] start end ≡ start_of_file
 no-range e start end =
     λ i. record { start = no-position e start i; end = no-position e end i }
+
+pub no-line : (e : Encoding) (place : ℕ) → line_range e [] place ≡ start_of_file
+unfolding lines_from characters_from
+no-line e zero = refl
+no-line e (suc n) = refl

@@ -1,15 +1,26 @@
 -- What notifications and file events lead to.
-use Rattle.std.proofs.Common.{◌≡◌, ◌∙◌, ◌&&◌, ap, sym, ℕ, Bool, true, false, List, [], ◌∷◌}
-use Rattle.std.specs.Prelude.{codes, Option, None, Some}
+use Rattle.std.proofs.Common.{◌≡◌, ◌∙◌, ◌&&◌, ap, sym, subst, refl, ℕ, Bool, true, false, List, []}
+use Rattle.std.proofs.Common.{◌∷◌}
+use Rattle.std.specs.Prelude.{codes, Option, None, Some, Result, if◌then◌else◌}
 use Rattle.std.specs.Option.{option_map}
 use Rattle.json.specs.Find.{get}
 use Rattle.json.specs.Json.{Json}
 use Rattle.cb_tags.specs.Names.{is_file_name}
 use Rattle.cb_wire.specs.Uris.{escaped, name_below, path_of}
 use Rattle.cb_lsp.specs.declared.notice.Notice.{Notice}
-use Rattle.cb_lsp.specs.Messages.{Serving, ends_as_c, happened, is_opening, noticed_at, noticed_of}
-use Rattle.cb_lsp.specs.Messages.{moved, removed_at, replies, show_of, stays, told_of, unread}
-use Rattle.cb_lsp.specs.Params.{is_deletion, text_in, uri_in}
+use Rattle.cb_lsp.specs.declared.notice.FileEvent.{FileEvent}
+use Rattle.cb_lsp.specs.declared.notice.FileEvent.TheVariants.{Written}
+use Rattle.cb_tags.specs.Writers.{Writer}
+use Rattle.cb_tags.specs.Writing.{Puts}
+use Rattle.cb_lsp.specs.Bodies.{Does, written_text}
+use Rattle.cb_lsp.specs.Documents.{Oracle, Reading, Work, given_found, is_renewed, renewed}
+use Rattle.cb_lsp.specs.Messages.{Serving, ends_as_c, happened, happened_at, is_opening, may_enter}
+use Rattle.cb_lsp.specs.Messages.{moved}
+use Rattle.cb_lsp.specs.Messages.{noticed_at, noticed_of, replies, show_if, show_of, stays, told_of}
+use Rattle.cb_lsp.specs.Messages.{unread}
+use Rattle.cb_lsp.specs.Params.{event_of, text_in, uri_in}
+use Rattle.cb_lsp.specs.steps.Works.{one_change, one_event}
+use Rattle.cb_lsp.proofs.Answered.{does-same, on-ok}
 
 -- ---- the path of a URI
 
@@ -25,50 +36,103 @@ no-path bytes o uri found none = sym (ap (option_map bytes) none) ∙ found
 
 -- ---- file events
 
-pub happened-gone : (m : Bool) (s : Serving) (event : Json) (uri path : List ℕ)
-    → is_deletion event ≡ true → Some uri ≡ text_in (get (codes "uri") event)
+pub happened-to : (kind : FileEvent) (m : Bool) (f : Reading) (s : Serving) (event : Json)
+    (uri path : List ℕ)
+    → Some kind ≡ event_of event → Some uri ≡ text_in (get (codes "uri") event)
     → Some path ≡ path_of uri
-    → removed_at m s (Some path) ≡ happened (false ∷ m ∷ []) s event
-happened-gone m s event uri path deletion named found = rw (deletion, ← named, ← found)
+    → happened_at kind (one_change m f) s (Some path) ≡ happened (one_event false m f) s event
+happened-to kind m f s event uri path is named found = rw (← is, ← named, ← found)
 
-pub happened-unread : (m : Bool) (s : Serving) (event : Json) (uri : List ℕ)
-    → is_deletion event ≡ true → Some uri ≡ text_in (get (codes "uri") event)
-    → unread s uri ≡ happened (true ∷ m ∷ []) s event
-happened-unread m s event uri deletion named = rw (deletion, ← named)
+pub happened-unread : (kind : FileEvent) (m : Bool) (f : Reading) (s : Serving) (event : Json)
+    (uri : List ℕ)
+    → Some kind ≡ event_of event → Some uri ≡ text_in (get (codes "uri") event)
+    → unread s uri ≡ happened (one_event true m f) s event
+happened-unread kind m f s event uri is named = rw (← is, ← named)
 
 -- ---- documents
 
-pub noticed-path : (n : Notice) (refusals : List Bool) (s : Serving) (params : Option Json)
+-- what is decided behind a first refusal
+abbrev pub behind : Bool → Oracle → Oracle
+behind m o = record { refusals = m ∷ o.refusals; found = o.found }
+
+abbrev pub quiet : Oracle
+quiet = record { refusals = []; found = [] }
+
+pub noticed-path : (n : Notice) (o : Oracle) (s : Serving) (params : Option Json)
     (uri path : List ℕ) → Some uri ≡ uri_in params → Some path ≡ path_of uri
-    → noticed_at n refusals s params path
-    ≡ noticed_of n (false ∷ refusals) s params (uri_in params)
-noticed-path n refusals s params uri path named found = rw (← named, ← found)
+    → noticed_at n o s params path ≡ noticed_of n (behind false o) s params (uri_in params)
+noticed-path n o s params uri path named found = rw (← named, ← found)
 
 pub noticed-nowhere : (n : Notice) (s : Serving) (params : Option Json)
     (uri : List ℕ) → Some uri ≡ uri_in params → None ≡ path_of uri
-    → stays s ≡ noticed_of n (false ∷ []) s params (uri_in params)
+    → stays s ≡ noticed_of n (behind false quiet) s params (uri_in params)
 noticed-nowhere n s params uri named none = rw (← named, ← none)
 
 pub noticed-unread : (n : Notice) (s : Serving) (params : Option Json) (uri : List ℕ)
     → Some uri ≡ uri_in params
-    → unread s uri ≡ noticed_of n (true ∷ []) s params (uri_in params)
+    → unread s uri ≡ noticed_of n (behind true quiet) s params (uri_in params)
 noticed-unread n s params uri named = rw (← named)
 
 -- ---- a path
 
-pub noticed-name : (n : Notice) (refusals : List Bool) (s : Serving) (params : Option Json)
+pub noticed-name : (n : Notice) (o : Oracle) (s : Serving) (params : Option Json)
     (path name : List ℕ) → name ≡ name_below s.client.root.path path → is_file_name name ≡ true
-    → moved s name (told_of s.client.encoding n refusals s.work params name)
-    ≡ noticed_at n refusals s params path
-noticed-name n refusals s params path name is good = rw (← is, good)
+    → moved s name (told_of s.client.encoding n o s.work params name) ≡ noticed_at n o s params path
+noticed-name n o s params path name is good = rw (← is, good)
+
+-- the document is told of
+pub noticed-told : {A E : Type 0} (n : Notice) (o : Oracle) (held s : Serving)
+    (params : Option Json) (path name : List ℕ) (work : Work) (told : Option (List ℕ))
+    (old new : Writer) (r : Result A E) → held ≡ s
+    → name ≡ name_below held.client.root.path path → is_file_name name ≡ true
+    → record { work = work; told = told } ≡ told_of held.client.encoding n o held.work params name
+    → Puts old new r (written_text (show_if name told))
+    → Does (noticed_at n o s params path) (record held { work = work }) old new r
+noticed-told n o held s params path name work told old new r same is good tells put =
+    let meant : moved held name (record { work = work; told = told })
+    ≡ noticed_at n o held params path =
+    ap (moved held name) tells ∙ noticed-name n o held params path name is good in
+    subst (λ x. Does (noticed_at n o x params path) (record held { work = work }) old new r) same
+    (does-same (noticed_at n o held params path)
+    (moved held name (record { work = work; told = told })) (record held { work = work }) old new r
+    meant (on-ok r refl, put))
+
+-- a file that was written is told of
+pub renewed-told : {A E : Type 0} (m : Bool) (f : Reading) (held s : Serving)
+    (path name : List ℕ) (work : Work) (told : Option (List ℕ)) (old new : Writer) (r : Result A E)
+    → held ≡ s → name ≡ name_below held.client.root.path path
+    → is_renewed held.work (may_enter path name) name ≡ true
+    → record { work = work; told = told } ≡ given_found f m held.work name None
+    → Puts old new r (written_text (show_if name told))
+    → Does (happened_at Written (one_change m f) s (Some path)) (record held { work = work }) old
+    new r
+renewed-told m f held s path name work told old new r same is renews tells put =
+    let o = one_change m f in
+    let chosen : given_found f m held.work name None
+    ≡ renewed o held.work (may_enter path name) name =
+    ap (λ b. if b then given_found f m held.work name None
+    else record { work = held.work; told = None }) (sym renews) in
+    let meant : moved held name (record { work = work; told = told })
+    ≡ happened_at Written o held (Some path) =
+    ap (moved held name) (tells ∙ chosen)
+    ∙ ap (λ n. moved held n (renewed o held.work (may_enter path n) n)) is in
+    subst (λ x. Does (happened_at Written o x (Some path)) (record held { work = work }) old new r)
+    same
+    (does-same (happened_at Written o held (Some path))
+    (moved held name (record { work = work; told = told })) (record held { work = work }) old new r
+    meant (on-ok r refl, put))
+
+pub noticed-none : (n : Notice) (s : Serving) (params : Option Json) → None ≡ uri_in params
+    → stays s ≡ noticed_of n quiet s params (uri_in params)
+noticed-none n s params none = rw (← none)
 
 pub noticed-bad : (n : Notice) (s : Serving) (params : Option Json) (path name : List ℕ)
     → name ≡ name_below s.client.root.path path → is_file_name name ≡ false
     → (ends_as_c path && is_opening n) ≡ true
-    → replies s (show_of (escaped path) (codes "bad name")) ≡ noticed_at n [] s params path
+    → replies s (show_of (escaped path) (codes "bad name")) ≡ noticed_at n quiet s params path
 noticed-bad n s params path name is bad opens = rw (← is, bad, opens)
 
 pub noticed-quiet : (n : Notice) (s : Serving) (params : Option Json) (path name : List ℕ)
     → name ≡ name_below s.client.root.path path → is_file_name name ≡ false
-    → (ends_as_c path && is_opening n) ≡ false → stays s ≡ noticed_at n [] s params path
+    → (ends_as_c path && is_opening n) ≡ false → stays s ≡ noticed_at n quiet s params path
 noticed-quiet n s params path name is bad quiet = rw (← is, bad, quiet)

@@ -16,36 +16,38 @@ use Rattle.cb_wire.specs.Frames.{First, ReadsFrame, body, too_large as too_long}
 use Rattle.cb_lsp.specs.declared.server.Stage.{Stage}
 use Rattle.cb_lsp.specs.declared.server.Stage.TheVariants.{Fresh, Running, Down}
 use Rattle.cb_lsp.specs.declared.turn.Ending.{Ending}
+use Rattle.cb_lsp.specs.Documents.{Oracle}
 use Rattle.cb_lsp.specs.Messages.{Message, Outcome, Serving, does, is_exit, not_json, not_request}
 use Rattle.cb_lsp.specs.Messages.{notification, noticed_by, reply, request, stays, too_large}
 use Rattle.cb_lsp.specs.Bodies.{IsMessage, IsOf, Takes, Turn, is_last, outcome, refused}
 use Rattle.cb_lsp.specs.Bodies.{reply_text, taken, written_text}
 use Rattle.cb_lsp.specs.Endings.{IsClosed, IsEnd, IsNext, LeavesTurn, ending_at}
 use Rattle.cb_lsp.specs.steps.Turns.{GoesOn, ending_of, going_on}
+use Rattle.cb_lsp.proofs.Notices.{quiet}
 
 -- ---- the last message
 
-exit-at : (stage : Stage) (refusals : List Bool) (s : Serving) (params : Option Json)
-    → noticed_by stage refusals s (codes "exit") params ≡ stays s
-exit-at Fresh refusals s params = refl
-exit-at Running refusals s params = refl
-exit-at Down refusals s params = refl
+exit-at : (stage : Stage) (o : Oracle) (s : Serving) (params : Option Json)
+    → noticed_by stage o s (codes "exit") params ≡ stays s
+exit-at Fresh o s params = refl
+exit-at Running o s params = refl
+exit-at Down o s params = refl
 
-exit-stays : (refusals : List Bool) (s : Serving) (m : Message) → is_exit m ≡ true
-    → does refusals s m ≡ stays s
+exit-stays : (o : Oracle) (s : Serving) (m : Message) → is_exit m ≡ true
+    → does o s m ≡ stays s
 unfolding does
-exit-stays refusals s (notification method params) e =
+exit-stays o s (notification method params) e =
     let is : method ≡ codes "exit" = (bytes_eq-Decides method (codes "exit")).0 e in
-    subst (λ name. noticed_by s.stage refusals s name params ≡ stays s) (sym is)
-    (exit-at s.stage refusals s params)
-exit-stays refusals s not_json e = cc
-exit-stays refusals s not_request e = cc
-exit-stays refusals s reply e = cc
-exit-stays refusals s too_large e = cc
-exit-stays refusals s (request id method params) e = cc
+    subst (λ name. noticed_by s.stage o s name params ≡ stays s) (sym is)
+    (exit-at s.stage o s params)
+exit-stays o s not_json e = cc
+exit-stays o s not_request e = cc
+exit-stays o s reply e = cc
+exit-stays o s too_large e = cc
+exit-stays o s (request id method params) e = cc
 
 last-stays : (t : Turn) (s : Serving) → is_last t ≡ true → outcome s t ≡ stays s
-last-stays (taken m refusals) s e = exit-stays refusals s m e
+last-stays (taken m o) s e = exit-stays o s m e
 last-stays refused s e = cc
 
 -- the ending by the client
@@ -118,13 +120,13 @@ turn-left f s mid left t rest old between new (Err fault) result next is takes g
 
 pub body-next : (f : First) (left : Reader) (text : List ℕ) (t : Turn) (rest : List ℕ)
     → f ≡ body text rest → IsOf (IsMessage text) t → IsNext f t rest
-body-next f left text (taken m refusals) rest e is =
-    subst (λ f. IsNext f (taken m refusals) rest) (sym e) (is, refl)
+body-next f left text (taken m o) rest e is =
+    subst (λ f. IsNext f (taken m o) rest) (sym e) (is, refl)
 body-next f left text refused rest e is = subst (λ f. IsNext f refused rest) (sym e) refl
 
 pub large-next : (f : First) (rest : List ℕ) → f ≡ too_long rest
-    → IsNext f (taken too_large []) rest
-large-next f rest e = subst (λ f. IsNext f (taken too_large []) rest) (sym e) (refl, refl)
+    → IsNext f (taken too_large quiet) rest
+large-next f rest e = subst (λ f. IsNext f (taken too_large quiet) rest) (sym e) (refl, refl)
 
 pub refused-next : (f : First) (text rest : List ℕ) → f ≡ body text rest → IsNext f refused rest
 refused-next f text rest e = subst (λ f. IsNext f refused rest) (sym e) refl

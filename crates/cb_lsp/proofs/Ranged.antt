@@ -143,7 +143,7 @@ words-no_feed (b ∷ bs) all =
       | false ↦ λ h more. absurd (true≢false (sym more))
     ]) refl all
 
-letter-word : (b : ℕ) (bs : List ℕ) → (is_letter b && list_all is_word bs) ≡ true
+pub letter-word : (b : ℕ) (bs : List ℕ) → (is_letter b && list_all is_word bs) ≡ true
     → list_all is_word (b ∷ bs) ≡ true
 letter-word b bs all =
     (elim (is_letter b) as (λ t. is_letter b ≡ t → (t && list_all is_word bs) ≡ true

@@ -34,7 +34,7 @@ not-here p e r out = ap (λ b. (p && b) || r) out ∙ with-false p r
 
 -- ---- names of files
 
-swapped : (x y : List ℕ) → bytes_eq x y ≡ bytes_eq y x
+pub swapped : (x y : List ℕ) → bytes_eq x y ≡ bytes_eq y x
 swapped x y = nat_list_eq_equiv.symm x y
 
 tied : (o p : Ordering) → o ≡ ordering_reverse p → is_gt o ≡ false → is_gt p ≡ false

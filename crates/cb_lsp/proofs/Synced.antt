@@ -18,27 +18,32 @@ use Rattle.cb_desk.proofs.PlaceLemmas.{is-gone, name-same, same-name, text-with,
 use Rattle.cb_desk.proofs.PlaceLemmas.{text-without}
 use Rattle.cb_wire.specs.declared.units.Encoding.{Encoding}
 use Rattle.cb_lsp.specs.Changes.{TextChange, or_else, text_by}
+use Rattle.cb_lsp.specs.declared.notice.FileEvent.{FileEvent}
+use Rattle.cb_lsp.specs.declared.notice.FileEvent.TheVariants.{Written, Gone}
 use Rattle.cb_lsp.specs.declared.notice.Notice.{Notice}
-use Rattle.cb_lsp.specs.declared.notice.Notice.TheVariants.{Open, Change, Save, Close, Files}
+use Rattle.cb_lsp.specs.declared.notice.Notice.TheVariants.{Ready, Open, Change, Save, Close}
+use Rattle.cb_lsp.specs.declared.notice.Notice.TheVariants.{Files}
 use Rattle.cb_lsp.specs.declared.server.Stage.{Stage}
 use Rattle.cb_lsp.specs.declared.server.Stage.TheVariants.{Fresh, Running, Down}
-use Rattle.cb_lsp.specs.Documents.{Document, Kept, Work, after_change, after_close, after_open}
-use Rattle.cb_lsp.specs.Documents.{after_removal, changed_into, changed_to, closed_to, document_of}
-use Rattle.cb_lsp.specs.Documents.{if_open, is_named, is_open, kept_from, lost, nothing}
-use Rattle.cb_lsp.specs.Documents.{present, removed, saved_as, text, text_of_document, text_step}
-use Rattle.cb_lsp.specs.Documents.{text_unless}
-use Rattle.cb_lsp.specs.Documents.{with_document, without_document}
+use Rattle.cb_lsp.specs.Documents.{Document, Reading, Oracle, Work, after_change, after_open}
+use Rattle.cb_lsp.specs.Documents.{after_step, changed_into, changed_to, document_of, first_found}
+use Rattle.cb_lsp.specs.Documents.{given, given_found, gone, holds, if_open, is_named, is_open}
+use Rattle.cb_lsp.specs.Documents.{kept_from, kept_text, later_found, lost, no_room, nothing}
+use Rattle.cb_lsp.specs.Documents.{present, removed, renewed, saved_as, text_of_document, text_step}
+use Rattle.cb_lsp.specs.Documents.{text_unless, unreadable, with_document, without}
+use Rattle.cb_lsp.specs.Documents.{without_document}
 use Rattle.cb_lsp.specs.Messages.{Message, Serving, all_happened, bad_name, does}
-use Rattle.cb_lsp.specs.Messages.{ends_as_c, fresh_server, happened, happened_in}
-use Rattle.cb_lsp.specs.Messages.{is_opening, moved, notice_of, noticed_as, noticed_by}
-use Rattle.cb_lsp.specs.Messages.{noticed_if, noticed_of, noticed_on, not_json, not_request}
-use Rattle.cb_lsp.specs.Messages.{notification, opened_with, removed_at, removed_of, reply, replies}
-use Rattle.cb_lsp.specs.Messages.{request, show_of, stays, told_of, too_large}
-use Rattle.cb_lsp.specs.Params.{changes_in, document_text, is_deletion, items_in, member_of}
+use Rattle.cb_lsp.specs.Messages.{ends_as_c, fresh_server, happened, happened_as, happened_at}
+use Rattle.cb_lsp.specs.Messages.{happened_in, happened_to, is_opening, may_enter, moved, notice_of}
+use Rattle.cb_lsp.specs.Messages.{noticed_as, noticed_by, noticed_if, noticed_of, noticed_on}
+use Rattle.cb_lsp.specs.Messages.{not_json, not_request, notification, opened_with, registers}
+use Rattle.cb_lsp.specs.Messages.{reply, replies, request, show_of, stays, told_of, too_large}
+use Rattle.cb_lsp.specs.Params.{changes_in, document_text, event_of, items_in, member_of}
 use Rattle.cb_lsp.specs.Params.{text_in, uri_in}
-use Rattle.cb_lsp.specs.Sync.{AreInSync, DocumentsStayInSync, Sent, after_all, name_at}
-use Rattle.cb_lsp.specs.Sync.{name_of, nothing_sent, sent_after, sent_at, sent_if, sent_in_all}
-use Rattle.cb_lsp.specs.Sync.{sent_of, text_after, text_changed, text_or, text_through, with_text}
+use Rattle.cb_lsp.specs.Sync.{AreInSync, Arrived, DocumentsStayInSync, Sent, after_all, arrives}
+use Rattle.cb_lsp.specs.Sync.{name_at, name_of, nothing_sent, sent_after, sent_at, sent_if}
+use Rattle.cb_lsp.specs.Sync.{sent_in_all, sent_of, text_after, text_changed, text_or, text_through}
+use Rattle.cb_lsp.specs.Sync.{with_text}
 use Rattle.cb_lsp.proofs.Changes.{healed, same-text}
 use Rattle.cb_lsp.proofs.Opened.{closed-document}
 use Rattle.cb_lsp.proofs.Untouched.{requests_change_nothing}
@@ -79,19 +84,19 @@ put-other d (e ∷ es) name other =
           ap (cond (is_named name e) (Some e)) (put-other d es name other)
     ]) refl
 
-gone-other : (gone : List ℕ) (ds : List Document) (name : List ℕ) → bytes_eq gone name ≡ false
-    → document_of (without_document gone ds) name ≡ document_of ds name
+gone-other : (taken : List ℕ) (ds : List Document) (name : List ℕ) → bytes_eq taken name ≡ false
+    → document_of (without_document taken ds) name ≡ document_of ds name
 unfolding document_of without_document
-gone-other gone [] name other = refl
-gone-other gone (e ∷ es) name other =
-    (elim (is_named gone e) as (λ b. is_named gone e ≡ b
-    → document_of (cond b es (e ∷ without_document gone es)) name
+gone-other taken [] name other = refl
+gone-other taken (e ∷ es) name other =
+    (elim (is_named taken e) as (λ b. is_named taken e ≡ b
+    → document_of (cond b es (e ∷ without_document taken es)) name
     ≡ cond (is_named name e) (Some e) (document_of es name)) [
       | true ↦ λ h.
           let apart : is_named name e ≡ false =
-          ap (λ n. bytes_eq n name) (same-name e.name gone h) ∙ other in
+          ap (λ n. bytes_eq n name) (same-name e.name taken h) ∙ other in
           rw apart refl
-      | false ↦ λ h. ap (cond (is_named name e) (Some e)) (gone-other gone es name other)
+      | false ↦ λ h. ap (cond (is_named name e) (Some e)) (gone-other taken es name other)
     ]) refl
 
 -- no two documents are of one file
@@ -181,9 +186,9 @@ module _ (w u : World) (name bytes : List ℕ) where
     others = λ n other. text-with (record { name = name; bytes = bytes }) w.files n other;
   }
 
-  given : step w (text_step w.files name bytes) ≡ Ok u → Given w u name bytes
+  has-given : step w (text_step w.files name bytes) ≡ Ok u → Given w u name bytes
   unfolding step
-  given made =
+  has-given made =
       (elim (has_file w.files name) as (λ b. has_file w.files name ≡ b
       → step w (cond b (reload name bytes) (load name bytes)) ≡ Ok u → Given w u name bytes) [
         | true ↦ λ h k.
@@ -195,6 +200,10 @@ module _ (w u : World) (name bytes : List ℕ) where
       ]) refl made
 
 -- ---- what keeps in step
+
+-- no memory is refused, and these are found
+abbrev granted : List Reading → Oracle
+granted fs = record { refusals = []; found = fs }
 
 record Good (w : Work) (sent : Sent) : Type 0 where
   synced : AreInSync w sent
@@ -282,7 +291,7 @@ module _ (w : Work) (sent : Sent) (good : Good w sent) where
       → step w.world (text_step w.world.files name bytes) ≡ r
       → Good (after_open w name r).work (with_text name (Some bytes) sent)
   opens name bytes (Ok u) made =
-      let g = given w.world u name bytes made in
+      let g = has-given w.world u name bytes made in
       put-good (record { name = name; kept = present; lost = false }) u (Some bytes) g.others
       (λ _. ap Some (sym g.here))
   opens name bytes (Err why) made =
@@ -304,7 +313,7 @@ module _ (w : Work) (sent : Sent) (good : Good w sent) where
       → step w.world (text_step w.world.files d.name bytes) ≡ r
       → Good (after_change w d r).work (with_text d.name (Some bytes) sent)
   changes d bytes (Ok u) made =
-      let g = given w.world u d.name bytes made in
+      let g = has-given w.world u d.name bytes made in
       put-good (record {
         name = d.name;
         kept = kept_from (text_of_file w.world.files d.name) d.kept;
@@ -315,7 +324,7 @@ module _ (w : Work) (sent : Sent) (good : Good w sent) where
   -- a document that is lost and stays so
   lost-good : (name : List ℕ) (d : Document) (t : Option (List ℕ))
       → document_of w.documents name ≡ Some d → d.lost ≡ true → Good w (with_text name t sent)
-  lost-good name d t is gone = record {
+  lost-good name d t is lost-is = record {
     synced = λ n f found kept.
         (elim (bytes_eq name n) as (λ b. bytes_eq name n ≡ b
         → cond b t (sent n) ≡ Some (text_of_file w.world.files n)) [
@@ -323,7 +332,7 @@ module _ (w : Work) (sent : Sent) (good : Good w sent) where
               let there : document_of w.documents n ≡ Some d =
               subst (λ m. document_of w.documents m ≡ Some d) (same-name name n h) is in
               let same : d ≡ f = cc in
-              absurd (true≢false (sym gone ∙ ap (λ (x : Document). x.lost) same ∙ kept))
+              absurd (true≢false (sym lost-is ∙ ap (λ (x : Document). x.lost) same ∙ kept))
           | false ↦ λ h. good.synced n f found kept
         ]) refl;
     apart = good.apart;
@@ -340,10 +349,10 @@ module _ (w : Work) (sent : Sent) (good : Good w sent) where
       → text_by e (text_unless l (text_of_file w.world.files d.name)) cs ≡ o
       → Good (changed_into false w d o).work
       (with_text d.name (text_through e (sent d.name) cs) sent)) [
-        | true ↦ λ gone none.
+        | true ↦ λ lost-is none.
             (elim o as (λ q. text_by e None cs ≡ q → Good (changed_into false w d q).work
             (with_text d.name (text_through e (sent d.name) cs) sent)) [
-              | None ↦ λ h. lost-good d.name d (text_through e (sent d.name) cs) found gone
+              | None ↦ λ h. lost-good d.name d (text_through e (sent d.name) cs) found lost-is
               | Some bytes ↦ λ h.
                   let same : text_through e (sent d.name) cs ≡ Some bytes =
                   healed e cs (sent d.name) bytes
@@ -407,155 +416,220 @@ module _ (w : Work) (sent : Sent) (good : Good w sent) where
       subst (λ n. Good (saved_as w d d.lost).work (with_text n (sent n) sent)) named
       (saves-as d d.lost refl (subst (λ n. document_of w.documents n ≡ Some d) (sym named) found))
 
+  -- a document is closed, and its file given a text
   closes : (name bytes : List ℕ) (r : Result World Refusal)
       → step w.world (text_step w.world.files name bytes) ≡ r
-      → Good (after_close w name r).work (with_text name None sent)
-  closes name bytes (Ok u) made = drop-good name u (given w.world u name bytes made).others
+      → Good (after_step (without name w) r).work (with_text name None sent)
+  closes name bytes (Ok u) made = drop-good name u (has-given w.world u name bytes made).others
   closes name bytes (Err why) made = drop-good name w.world (λ n other. refl)
 
-  closes-to : (name : List ℕ) (k : Kept)
-      → Good (closed_to false w name k).work (with_text name None sent)
-  closes-to name nothing = drop-good name w.world (λ n other. refl)
-  closes-to name present = drop-good name w.world (λ n other. refl)
-  closes-to name (text bytes) = closes name bytes _ refl
+  closes-with : (name : List ℕ) (o : Option (List ℕ))
+      → Good (given false (without name w) name o).work (with_text name None sent)
+  closes-with name None = drop-good name w.world (λ n other. refl)
+  closes-with name (Some bytes) = closes name bytes _ refl
 
-  closes-if : (name : List ℕ) (o : Option Document) → document_of w.documents name ≡ o
-      → Good (if_open (λ d. closed_to false w name d.kept) w o).work (with_text name None sent)
-  closes-if name None found = closed-good name None found
-  closes-if name (Some d) found = closes-to name d.kept
+  closes-to : (name : List ℕ) (f : Reading) (o : Option (List ℕ))
+      → Good (given_found f false (without name w) name o).work (with_text name None sent)
+  closes-to name gone o = closes-with name o
+  closes-to name unreadable o = drop-good name w.world (λ n other. refl)
+  closes-to name no_room o = drop-good name w.world (λ n other. refl)
+  closes-to name (holds bytes) o = closes-with name (Some bytes)
 
-  tells : (e : Encoding) (notice : Notice) (params : Option Json) (name : List ℕ)
-      → Good (told_of e notice [] w params name).work
+  closes-if : (name : List ℕ) (f : Reading) (o : Option Document) → document_of w.documents name ≡ o
+      → Good (if_open (λ d. given_found f false (without name w) name (kept_text d.kept)) w o).work
+      (with_text name None sent)
+  closes-if name f None found = closed-good name None found
+  closes-if name f (Some d) found = closes-to name f (kept_text d.kept)
+
+  tells : (fs : List Reading) (e : Encoding) (notice : Notice) (params : Option Json) (name : List ℕ)
+      → Good (told_of e notice (granted fs) w params name).work
       (with_text name (text_after e notice params (sent name)) sent)
-  tells e Open params name = opens-if name (document_text params)
-  tells e Change params name = changes-if e name (changes_in params) _ refl
-  tells e Save params name = saves-if name _ refl
-  tells e Close params name = closes-if name _ refl
-  tells e Files params name = same-good name (sent name) refl
+  tells fs e Ready params name = same-good name (sent name) refl
+  tells fs e Open params name = opens-if name (document_text params)
+  tells fs e Change params name = changes-if e name (changes_in params) _ refl
+  tells fs e Save params name = saves-if name _ refl
+  tells fs e Close params name = closes-if name (first_found fs) _ refl
+  tells fs e Files params name = same-good name (sent name) refl
 
-  -- a file without a document goes away
-  goes : (name : List ℕ) (r : Result World Refusal) → step w.world (unload name) ≡ r
-      → document_of w.documents name ≡ None → Good (after_removal w r).work sent
-  unfolding step
-  goes name (Ok u) made none = record {
+  -- a file without a document goes away, or is given a text
+  moves : (name : List ℕ) (u : World) → document_of w.documents name ≡ None
+      → ((n : List ℕ) → bytes_eq name n ≡ false
+      → text_of_file u.files n ≡ text_of_file w.world.files n)
+      → Good (record w { world = u }) sent
+  moves name u none others = record {
     synced = λ n d found kept.
         (elim (bytes_eq name n) as (λ b. bytes_eq name n ≡ b
         → sent n ≡ Some (text_of_file u.files n)) [
           | true ↦ λ h.
               let missing : document_of w.documents n ≡ None =
               subst (λ m. document_of w.documents m ≡ None) (same-name name n h) none in cc
-          | false ↦ λ h.
-              let is : unloaded w.world name ≡ u =
-              is-after (unload_refusal w.world name) (unloaded w.world name) u made in
-              good.synced n d found kept
-              ∙ ap Some (sym (text-without w.world.files name n (other-way name n h))
-              ∙ ap (λ (v : World). text_of_file v.files n) is)
+          | false ↦ λ h. good.synced n d found kept ∙ ap Some (sym (others n h))
         ]) refl;
     apart = good.apart;
   }
+
+  goes : (name : List ℕ) (r : Result World Refusal) → step w.world (unload name) ≡ r
+      → document_of w.documents name ≡ None → Good (after_step w r).work sent
+  unfolding step
+  goes name (Ok u) made none =
+      let is : unloaded w.world name ≡ u =
+      is-after (unload_refusal w.world name) (unloaded w.world name) u made in
+      moves name u none (λ n h.
+      ap (λ (v : World). text_of_file v.files n) (sym is)
+      ∙ text-without w.world.files name n (other-way name n h))
   goes name (Err why) made none = good
 
   goes-if : (name : List ℕ) → Good (removed false w name).work sent
   goes-if name =
       (elim (is_open w.documents name) as (λ b. is_open w.documents name ≡ b
       → Good (cond (b || not (has_file w.world.files name)) (record { work = w; told = None })
-      (after_removal w (step w.world (unload name)))).work sent) [
+      (after_step w (step w.world (unload name)))).work sent) [
         | true ↦ λ h. good
         | false ↦ λ h.
             elim (not (has_file w.world.files name)) as (λ b. Good (cond b
             (record { work = w; told = None })
-            (after_removal w (step w.world (unload name)))).work sent) [
+            (after_step w (step w.world (unload name)))).work sent) [
               | true ↦ good
               | false ↦ goes name _ refl (closed-document name w.documents h)
+            ]
+      ]) refl
+
+  renews : (name bytes : List ℕ) (r : Result World Refusal)
+      → step w.world (text_step w.world.files name bytes) ≡ r
+      → document_of w.documents name ≡ None → Good (after_step w r).work sent
+  renews name bytes (Ok u) made none =
+      moves name u none (has-given w.world u name bytes made).others
+  renews name bytes (Err why) made none = good
+
+  renews-to : (name : List ℕ) (f : Reading) → document_of w.documents name ≡ None
+      → Good (given_found f false w name None).work sent
+  renews-to name gone none = good
+  renews-to name unreadable none = good
+  renews-to name no_room none = good
+  renews-to name (holds bytes) none = renews name bytes _ refl none
+
+  renews-if : (fs : List Reading) (may_enter : Bool) (name : List ℕ)
+      → Good (renewed (granted fs) w may_enter name).work sent
+  renews-if fs may_enter name =
+      (elim (is_open w.documents name) as (λ b. is_open w.documents name ≡ b
+      → Good (cond (not b && (has_file w.world.files name || may_enter))
+      (given_found (first_found fs) false w name None) (record { work = w; told = None })).work
+      sent) [
+        | true ↦ λ h. good
+        | false ↦ λ h.
+            elim (has_file w.world.files name || may_enter) as (λ b. Good (cond b
+            (given_found (first_found fs) false w name None)
+            (record { work = w; told = None })).work sent) [
+              | true ↦ renews-to name (first_found fs) (closed-document name w.documents h)
+              | false ↦ good
             ]
       ]) refl
 
 -- ---- what messages do
 
 module _ (s : Serving) (sent : Sent) (good : Good s.work sent) where
-  removed-good : (o : Option (List ℕ)) → Good (removed_at false s o).server.work sent
-  removed-good None = good
-  removed-good (Some path) = goes-if s.work sent good (name_below s.client.root.path path)
+  happened-at-good : (kind : FileEvent) (fs : List Reading) (o : Option (List ℕ))
+      → Good (happened_at kind (granted fs) s o).server.work sent
+  happened-at-good Gone fs None = good
+  happened-at-good Gone fs (Some path) =
+      goes-if s.work sent good (name_below s.client.root.path path)
+  happened-at-good Written fs None = good
+  happened-at-good Written fs (Some path) =
+      let name = name_below s.client.root.path path in
+      renews-if s.work sent good fs (may_enter path name) name
 
-  removed-of-good : (o : Option (List ℕ)) → Good (removed_of [] s o).server.work sent
-  removed-of-good None = good
-  removed-of-good (Some uri) = removed-good (path_of uri)
+  happened-to-good : (kind : FileEvent) (fs : List Reading) (o : Option (List ℕ))
+      → Good (happened_to kind (granted fs) s o).server.work sent
+  happened-to-good kind fs None = good
+  happened-to-good kind fs (Some uri) = happened-at-good kind fs (path_of uri)
 
-  happened-good : (event : Json) → Good (happened [] s event).server.work sent
-  happened-good event =
-      elim (is_deletion event) as (λ b. Good (cond b
-      (removed_of [] s (text_in (get (codes "uri") event))) (stays s)).server.work sent) [
-        | true ↦ removed-of-good (text_in (get (codes "uri") event))
-        | false ↦ good
-      ]
+  happened-as-good : (kind : Option FileEvent) (fs : List Reading) (event : Json)
+      → Good (happened_as kind (granted fs) s event).server.work sent
+  happened-as-good None fs event = good
+  happened-as-good (Some kind) fs event =
+      happened-to-good kind fs (text_in (get (codes "uri") event))
 
-  at-good : (notice : Notice) (params : Option Json) (o : Option (List ℕ))
-      → Good (noticed_on notice [] s params o).server.work
+  at-good : (fs : List Reading) (notice : Notice) (params : Option Json) (o : Option (List ℕ))
+      → Good (noticed_on notice (granted fs) s params o).server.work
       (sent_of s.client.encoding sent notice params (name_at s.client.root.path o))
-  at-good notice params None = good
-  at-good notice params (Some path) =
+  at-good fs notice params None = good
+  at-good fs notice params (Some path) =
       let name = name_below s.client.root.path path in
       elim (is_file_name name) as (λ b. Good
-      (cond b (moved s name (told_of s.client.encoding notice [] s.work params name))
+      (cond b (moved s name (told_of s.client.encoding notice (granted fs) s.work params name))
       (bad_name s notice path)).server.work
       (sent_of s.client.encoding sent notice params (cond b (Some name) None))) [
-        | true ↦ tells s.work sent good s.client.encoding notice params name
+        | true ↦ tells s.work sent good fs s.client.encoding notice params name
         | false ↦ elim (ends_as_c path && is_opening notice) as (λ b. Good (cond b
             (replies s (show_of (escaped path) (codes "bad name"))) (stays s)).server.work sent)
             [ true ↦ good | false ↦ good ]
       ]
 
-  of-good : (notice : Notice) (params : Option Json) (o : Option (List ℕ))
-      → Good (noticed_of notice [] s params o).server.work
+  of-good : (fs : List Reading) (notice : Notice) (params : Option Json) (o : Option (List ℕ))
+      → Good (noticed_of notice (granted fs) s params o).server.work
       (sent_of s.client.encoding sent notice params (name_of s.client.root.path o))
-  of-good notice params None = good
-  of-good notice params (Some uri) = at-good notice params (path_of uri)
+  of-good fs notice params None = good
+  of-good fs notice params (Some uri) = at-good fs notice params (path_of uri)
 
-all-good : (s : Serving) (sent : Sent) → Good s.work sent → (events : Items)
-    → Good (all_happened [] s events).server.work sent
+all-good : (fs : List Reading) (s : Serving) (sent : Sent) → Good s.work sent → (events : Items)
+    → Good (all_happened (granted fs) s events).server.work sent
 unfolding all_happened
-all-good s sent good no_items = good
-all-good s sent good (item event more) =
-    all-good (happened [] s event).server sent (happened-good s sent good event) more
+all-good fs s sent good no_items = good
+all-good fs s sent good (item event more) =
+    all-good (later_found fs) (happened (granted fs) s event).server sent
+    (happened-as-good s sent good (event_of event) fs event) more
 
-happened-in-good : (s : Serving) (sent : Sent) → Good s.work sent → (o : Option Items)
-    → Good (happened_in [] s o).server.work sent
-happened-in-good s sent good None = good
-happened-in-good s sent good (Some events) = all-good s sent good events
+happened-in-good : (fs : List Reading) (s : Serving) (sent : Sent) → Good s.work sent
+    → (o : Option Items) → Good (happened_in (granted fs) s o).server.work sent
+happened-in-good fs s sent good None = good
+happened-in-good fs s sent good (Some events) = all-good fs s sent good events
 
-module _ (s : Serving) (sent : Sent) (good : Good s.work sent) where
+registers-good : (s : Serving) (sent : Sent) → Good s.work sent → (b : Bool)
+    → Good (registers s b).server.work sent
+registers-good s sent good true = good
+registers-good s sent good false = good
+
+module _ (fs : List Reading) (s : Serving) (sent : Sent) (good : Good s.work sent) where
   -- what a client has does not change by file events
   files-good : (params : Option Json) (w : Work) → Good w sent → (o : Option (List ℕ))
       → Good w (sent_of s.client.encoding sent Files params o)
   files-good params w so None = so
   files-good params w so (Some name) = same-good w sent so name (sent name) refl
 
+  ready-good : (params : Option Json) (w : Work) → Good w sent → (o : Option (List ℕ))
+      → Good w (sent_of s.client.encoding sent Ready params o)
+  ready-good params w so None = so
+  ready-good params w so (Some name) = same-good w sent so name (sent name) refl
+
   as-good : (notice : Notice) (params : Option Json)
-      → Good (noticed_as notice [] s params).server.work
+      → Good (noticed_as notice (granted fs) s params).server.work
       (sent_of s.client.encoding sent notice params
       (name_of s.client.root.path (uri_in params)))
-  as-good Open params = of-good s sent good Open params (uri_in params)
-  as-good Change params = of-good s sent good Change params (uri_in params)
-  as-good Save params = of-good s sent good Save params (uri_in params)
-  as-good Close params = of-good s sent good Close params (uri_in params)
+  as-good Ready params =
+      ready-good params (registers s s.watches).server.work (registers-good s sent good s.watches)
+      (name_of s.client.root.path (uri_in params))
+  as-good Open params = of-good s sent good fs Open params (uri_in params)
+  as-good Change params = of-good s sent good fs Change params (uri_in params)
+  as-good Save params = of-good s sent good fs Save params (uri_in params)
+  as-good Close params = of-good s sent good fs Close params (uri_in params)
   as-good Files params =
-      files-good params (noticed_as Files [] s params).server.work
-      (happened-in-good s sent good (items_in (member_of (codes "changes") params)))
+      files-good params (noticed_as Files (granted fs) s params).server.work
+      (happened-in-good fs s sent good (items_in (member_of (codes "changes") params)))
       (name_of s.client.root.path (uri_in params))
 
   if-good : (o : Option Notice) (params : Option Json)
-      → Good (noticed_if o [] s params).server.work (sent_if s.client sent o params)
+      → Good (noticed_if o (granted fs) s params).server.work (sent_if s.client sent o params)
   if-good None params = good
   if-good (Some notice) params = as-good notice params
 
   by-good : (stage : Stage) (method : List ℕ) (params : Option Json)
-      → Good (noticed_by stage [] s method params).server.work
+      → Good (noticed_by stage (granted fs) s method params).server.work
       (sent_at stage s.client sent method params)
   by-good Running method params = if-good (notice_of method) params
   by-good Fresh method params = good
   by-good Down method params = good
 
-  message-good : (m : Message) → Good (does [] s m).server.work (sent_after s sent m)
+  message-good : (m : Message) → Good (does (granted fs) s m).server.work (sent_after s sent m)
   unfolding does
   message-good not_json = good
   message-good not_request = good
@@ -564,17 +638,17 @@ module _ (s : Serving) (sent : Sent) (good : Good s.work sent) where
   message-good (notification method params) = by-good s.stage method params
   message-good (request id method params) =
       subst (λ w. Good w sent)
-      (sym (requests_change_nothing [] s id method params)) good
+      (sym (requests_change_nothing (granted fs) s id method params)) good
 
-all-messages : (s : Serving) (sent : Sent) → Good s.work sent → (ms : List Message)
-    → Good (after_all s ms).work (sent_in_all s sent ms)
+all-messages : (s : Serving) (sent : Sent) → Good s.work sent → (arrived : List Arrived)
+    → Good (after_all s arrived).work (sent_in_all s sent arrived)
 unfolding after_all sent_in_all
 all-messages s sent good [] = good
-all-messages s sent good (m ∷ ms) =
-    all-messages (does [] s m).server (sent_after s sent m) (message-good s sent good m) ms
+all-messages s sent good (a ∷ more) =
+    all-messages (arrives s a) (sent_after s sent a.0) (message-good a.1 s sent good a.0) more
 
 pub documents_stay_in_sync : DocumentsStayInSync
 unfolding document_of Distinct
-documents_stay_in_sync w root rooted version ms =
+documents_stay_in_sync w root rooted version arrived =
     (all-messages (fresh_server w root rooted version) nothing_sent
-    (record { synced = λ name d found kept. cc; apart = tt }) ms).synced
+    (record { synced = λ name d found kept. cc; apart = tt }) arrived).synced

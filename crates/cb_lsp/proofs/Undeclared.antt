@@ -152,7 +152,7 @@ all-known ts (u ∷ us) = (refl, all-known ts us)
 
 -- ---- those in the reach
 
-ordered-filter : (R : Fact → Fact → Type 0) (p : Fact → Bool) (us : List Fact)
+pub ordered-filter : (R : Fact → Fact → Type 0) (p : Fact → Bool) (us : List Fact)
     → AreOrdered R us → AreOrdered R (filter p us)
 unfolding AreOrdered
 ordered-filter R p [] o = tt

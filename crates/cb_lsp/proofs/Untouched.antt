@@ -1,5 +1,5 @@
 -- What is told of a document, and requests, change no file.
-use Rattle.std.proofs.Common.{◌≡◌, refl, ◌&&◌, not, ℕ, Bool, true, false, cond, List, codes}
+use Rattle.std.proofs.Common.{◌≡◌, refl, ◌&&◌, ◌||◌, not, ℕ, Bool, true, false, cond, List, codes}
 use Rattle.std.proofs.Common.{Option, None, Some, Result, Ok, Err}
 use Rattle.std.specs.Str.{bytes_eq}
 use Rattle.json.specs.Json.{Json, null}
@@ -8,114 +8,129 @@ use Rattle.cb_wire.specs.declared.reply.ErrorCode.TheVariants.{ServerNotInitiali
 use Rattle.cb_wire.specs.Trees.{error_reply, result_reply}
 use Rattle.cb_wire.specs.declared.units.Encoding.{Encoding}
 use Rattle.cb_desk.specs.declared.refusal.Refusal.{Refusal}
-use Rattle.cb_desk.specs.World.{World}
+use Rattle.cb_desk.specs.Step.{unload}
+use Rattle.cb_desk.specs.World.{World, has_file}
 use Rattle.cb_lsp.specs.Changes.{TextChange, text_by}
-use Rattle.cb_lsp.specs.declared.notice.Notice.TheVariants.{Open, Change, Save, Close, Files}
+use Rattle.cb_lsp.specs.declared.notice.Notice.TheVariants.{Ready, Open, Change, Save, Close}
+use Rattle.cb_lsp.specs.declared.notice.Notice.TheVariants.{Files}
 use Rattle.cb_lsp.specs.declared.server.Stage.{Stage}
 use Rattle.cb_lsp.specs.declared.server.Stage.TheVariants.{Fresh, Running, Down}
-use Rattle.cb_lsp.specs.Documents.{Document, Kept, Told, Work, after_change, after_close, after_open}
-use Rattle.cb_lsp.specs.Documents.{changed_into, changed_to, closed_to, document_of}
-use Rattle.cb_lsp.specs.Documents.{first_refusal, if_open, is_open, later_refusals, nothing}
-use Rattle.cb_lsp.specs.Documents.{opened_if, present, saved_as, taken, text, text_of_document}
-use Rattle.cb_lsp.specs.Documents.{text_step}
+use Rattle.cb_lsp.specs.Documents.{Document, Reading, Work, after_change, after_open, after_step}
+use Rattle.cb_lsp.specs.Documents.{changed_into, changed_to, document_of, first_found}
+use Rattle.cb_lsp.specs.Documents.{first_refusal, given, given_found, gone, holds, if_open, is_open}
+use Rattle.cb_lsp.specs.Documents.{is_renewed, kept_text, later_refusals, no_room, opened_if}
+use Rattle.cb_lsp.specs.Documents.{saved_as, taken, text_of_document, text_step, unreadable, without}
 use Rattle.cb_lsp.specs.Messages.{Serving, asked_reply, does, initialized, opened_with}
 use Rattle.cb_lsp.specs.Messages.{replies, requested, running}
 use Rattle.cb_lsp.specs.Params.{changes_in, document_text}
 use Rattle.cb_lsp.specs.Questions.{asked_by}
-use Rattle.cb_lsp.specs.Sync.{RequestsChangeNothing, WhatIsToldChangedNothing}
+use Rattle.cb_lsp.specs.Sync.{LeavesFiles, RequestsChangeNothing, WhatIsToldChangedNothing}
+use Rattle.cb_lsp.specs.Sync.{WhatIsToldOfEventsChangedNothing}
 
 -- ---- what is told
 
--- where something is told the files are those before
-Untouched : Work → Told → Type 0
-Untouched w t = (why : List ℕ) → t.told ≡ Some why → t.work.world ≡ w.world
-
 module _ (w : Work) where
-  opens : (name : List ℕ) (r : Result World Refusal) → Untouched w (after_open w name r)
-  unfolding Untouched
+  opens : (name : List ℕ) (r : Result World Refusal) → LeavesFiles w (after_open w name r)
   opens name (Ok u) why e = cc
   opens name (Err reason) why e = refl
 
   opens-if : (no_memory no_text : Bool) (name bytes : List ℕ)
-      → Untouched w (opened_if no_memory no_text w name bytes)
-  unfolding Untouched
+      → LeavesFiles w (opened_if no_memory no_text w name bytes)
   opens-if true no_text name bytes = λ why e. refl
   opens-if false no_text name bytes =
       opens name (taken no_text w.world (text_step w.world.files name bytes))
 
   opens-with : (refusals : List Bool) (name : List ℕ) (o : Option (List ℕ))
-      → Untouched w (opened_with refusals w name o)
-  unfolding Untouched
+      → LeavesFiles w (opened_with refusals w name o)
   opens-with refusals name None = λ why e. refl
   opens-with refusals name (Some bytes) =
       opens-if (first_refusal refusals && not (is_open w.documents name))
       (first_refusal (later_refusals refusals)) name bytes
 
-  changes : (d : Document) (r : Result World Refusal) → Untouched w (after_change w d r)
-  unfolding Untouched
+  changes : (d : Document) (r : Result World Refusal) → LeavesFiles w (after_change w d r)
   changes d (Ok u) why e = cc
   changes d (Err reason) why e = refl
 
   changes-into : (no_text : Bool) (d : Document) (o : Option (List ℕ))
-      → Untouched w (changed_into no_text w d o)
-  unfolding Untouched
+      → LeavesFiles w (changed_into no_text w d o)
   changes-into no_text d None = λ why e. refl
   changes-into no_text d (Some bytes) =
       changes d (taken no_text w.world (text_step w.world.files d.name bytes))
 
   changes-to : (e : Encoding) (no_text : Bool) (d : Document) (o : Option (List TextChange))
-      → Untouched w (changed_to e no_text w d o)
-  unfolding Untouched
+      → LeavesFiles w (changed_to e no_text w d o)
   changes-to e no_text d None = λ why is. refl
   changes-to e no_text d (Some cs) =
       changes-into no_text d (text_by e (text_of_document w d) cs)
 
   changes-if : (e : Encoding) (no_text : Bool) (cs : Option (List TextChange))
       (o : Option Document)
-      → Untouched w (if_open (λ d. changed_to e no_text w d cs) w o)
-  unfolding Untouched
+      → LeavesFiles w (if_open (λ d. changed_to e no_text w d cs) w o)
   changes-if e no_text cs None = λ why is. refl
   changes-if e no_text cs (Some d) = changes-to e no_text d cs
 
-  saves-as : (d : Document) (b : Bool) → Untouched w (saved_as w d b)
-  unfolding Untouched
+  saves-as : (d : Document) (b : Bool) → LeavesFiles w (saved_as w d b)
   saves-as d true why e = refl
   saves-as d false why e = refl
 
-  saves-if : (o : Option Document) → Untouched w (if_open (λ d. saved_as w d d.lost) w o)
-  unfolding Untouched
+  saves-if : (o : Option Document) → LeavesFiles w (if_open (λ d. saved_as w d d.lost) w o)
   saves-if None = λ why e. refl
   saves-if (Some d) = saves-as d d.lost
 
-  closes : (name : List ℕ) (r : Result World Refusal) → Untouched w (after_close w name r)
-  unfolding Untouched
-  closes name (Ok u) why e = cc
-  closes name (Err reason) why e = refl
+  steps : (v : Work) (r : Result World Refusal) → v.world ≡ w.world
+      → LeavesFiles w (after_step v r)
+  steps v (Ok u) same why e = cc
+  steps v (Err reason) same why e = same
 
-  closes-to : (no_text : Bool) (name : List ℕ) (k : Kept)
-      → Untouched w (closed_to no_text w name k)
-  closes-to no_text name nothing = closes name (Ok w.world)
-  closes-to no_text name present = closes name (Ok w.world)
-  closes-to no_text name (text bytes) =
-      closes name (taken no_text w.world (text_step w.world.files name bytes))
+  gives : (v : Work) (no_text : Bool) (name : List ℕ) (o : Option (List ℕ)) → v.world ≡ w.world
+      → LeavesFiles w (given no_text v name o)
+  gives v no_text name None same = λ why e. same
+  gives v no_text name (Some bytes) same =
+      steps v (taken no_text v.world (text_step v.world.files name bytes)) same
 
-  closes-if : (no_text : Bool) (name : List ℕ) (o : Option Document)
-      → Untouched w (if_open (λ d. closed_to no_text w name d.kept) w o)
-  unfolding Untouched
-  closes-if no_text name None = λ why e. refl
-  closes-if no_text name (Some d) = closes-to no_text name d.kept
+  gives-found : (f : Reading) (v : Work) (no_text : Bool) (name : List ℕ) (o : Option (List ℕ))
+      → v.world ≡ w.world → LeavesFiles w (given_found f no_text v name o)
+  gives-found gone v no_text name o same = gives v no_text name o same
+  gives-found unreadable v no_text name o same = λ why e. same
+  gives-found no_room v no_text name o same = λ why e. same
+  gives-found (holds bytes) v no_text name o same = gives v no_text name (Some bytes) same
+
+  closes-if : (f : Reading) (no_text : Bool) (name : List ℕ) (o : Option Document)
+      → LeavesFiles w (if_open (λ d. given_found f no_text (without name w) name (kept_text d.kept))
+      w o)
+  closes-if f no_text name None = λ why e. refl
+  closes-if f no_text name (Some d) =
+      gives-found f (without name w) no_text name (kept_text d.kept) refl
 
 pub what_is_told_changed_nothing : WhatIsToldChangedNothing
-unfolding Untouched
-what_is_told_changed_nothing e Open refusals w params name =
-    opens-with w refusals name (document_text params)
-what_is_told_changed_nothing e Change refusals w params name =
-    changes-if w e (first_refusal refusals) (changes_in params) (document_of w.documents name)
-what_is_told_changed_nothing e Save refusals w params name =
+what_is_told_changed_nothing e Open o w params name =
+    opens-with w o.refusals name (document_text params)
+what_is_told_changed_nothing e Change o w params name =
+    changes-if w e (first_refusal o.refusals) (changes_in params) (document_of w.documents name)
+what_is_told_changed_nothing e Save o w params name =
     saves-if w (document_of w.documents name)
-what_is_told_changed_nothing e Close refusals w params name =
-    closes-if w (first_refusal refusals) name (document_of w.documents name)
-what_is_told_changed_nothing e Files refusals w params name = λ why is. refl
+what_is_told_changed_nothing e Close o w params name =
+    closes-if w (first_found o.found) (first_refusal o.refusals) name (document_of w.documents name)
+what_is_told_changed_nothing e Ready o w params name = λ why is. refl
+what_is_told_changed_nothing e Files o w params name = λ why is. refl
+
+-- ---- what is told of file events
+
+pub told_of_events_changed_nothing : WhatIsToldOfEventsChangedNothing
+told_of_events_changed_nothing o w may_enter no_memory name = (
+  elim (is_renewed w may_enter name) as (λ b. LeavesFiles w (cond b
+      (given_found (first_found o.found) (first_refusal o.refusals) w name None)
+      (record { work = w; told = None }))) [
+        | true ↦ gives-found w (first_found o.found) w (first_refusal o.refusals) name None refl
+        | false ↦ λ why e. refl
+      ],
+  elim (is_open w.documents name || not (has_file w.world.files name)) as (λ b.
+      LeavesFiles w (cond b (record { work = w; told = None })
+      (after_step w (taken no_memory w.world (unload name))))) [
+        | true ↦ λ why e. refl
+        | false ↦ steps w w (taken no_memory w.world (unload name)) refl
+      ],
+)
 
 -- ---- requests
 
@@ -149,5 +164,5 @@ module _ (s : Serving) (id : Json) (method : List ℕ) (params : Option Json) wh
 
 pub requests_change_nothing : RequestsChangeNothing
 unfolding does
-requests_change_nothing refusals s id method params =
-    asks s id method params s.stage (first_refusal refusals)
+requests_change_nothing o s id method params =
+    asks s id method params s.stage (first_refusal o.refusals)

@@ -23,14 +23,14 @@ use Rattle.cb_lsp.proofs.Reaches.{apart, begins, kept}
 
 -- ---- uses by file
 
-abbrev AreUsesByFile : List Fact → Type 0
+abbrev pub AreUsesByFile : List Fact → Type 0
 AreUsesByFile us = AreOrdered (λ (u v : Fact). IsUpTo u.file v.file) us
 
 one-by-file : (u v : Fact) → ComesBefore u v → IsUpTo u.file v.file
 one-by-file u v (inl less) = up-of-less u.file v.file less
 one-by-file u v (inr same) = up-to-itself u.file v.file same.0
 
-uses-by-file : (us : List Fact) → UsesAreByPlace us → AreUsesByFile us
+pub uses-by-file : (us : List Fact) → UsesAreByPlace us → AreUsesByFile us
 uses-by-file = ordered-along ComesBefore (λ (u v : Fact). IsUpTo u.file v.file) one-by-file
 
 -- ---- the definitions of files before one are none of a file from there on

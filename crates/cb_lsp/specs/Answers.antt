@@ -1,5 +1,6 @@
 -- The answers to questions, as values of JSON.
 use Rattle.std.specs.Prelude.{ℕ, Bool, List, [], ◌∷◌, map, Option, None, Some, take, option_map}
+use Rattle.std.specs.Prelude.{Result, Ok, Err}
 use Rattle.std.specs.Prelude.{if◌then◌else◌}
 use Rattle.json.specs.Json.{Json, array, null}
 use Rattle.cb_desk.specs.World.{World, has_file, text_of_file}
@@ -9,23 +10,33 @@ use Rattle.cb_scan.specs.declared.lex.piece.Span.{Span}
 use Rattle.cb_scan.specs.lex.Tokens.{bytes_of}
 use Rattle.cb_scan.specs.Profiles.{facts_in}
 use Rattle.cb_tags.specs.TagLines.{Tag}
+use Rattle.cb_wire.specs.declared.position.Position.{Position}
 use Rattle.cb_wire.specs.declared.units.Encoding.{Encoding}
 use Rattle.cb_wire.specs.Positions.{place}
 use Rattle.cb_wire.specs.Uris.{name_below, path_of}
+use Rattle.cb_wire.specs.declared.reply.ErrorCode.TheVariants.{RequestFailed}
+use Rattle.cb_wire.specs.Trees.{error_reply, result_reply}
 use Rattle.cb_wire.specs.Values.{items_of}
 use Rattle.cb_wire.specs.declared.list.TheConstants.{MOST_ELEMENTS}
+use Rattle.cb_lsp.specs.Calls.{callables, incoming_calls, item_of}
 use Rattle.cb_lsp.specs.Clients.{Client}
+use Rattle.cb_lsp.specs.Completions.{completing, completions_of, word_before}
+use Rattle.cb_lsp.specs.Documents.{Work}
 use Rattle.cb_lsp.specs.Headers.{header_at, header_files}
 use Rattle.cb_lsp.specs.Highlights as marked
 use Rattle.cb_lsp.specs.Highlights.{highlight}
 use Rattle.cb_lsp.specs.Hovers.{hover_of, hover_texts}
 use Rattle.cb_lsp.specs.Meaning.{meaning}
 use Rattle.cb_lsp.specs.Places.{range_of}
-use Rattle.cb_lsp.specs.Questions.{Asked, in_file, workspace_symbols}
+use Rattle.cb_lsp.specs.Outgoing.{outgoing_calls}
+use Rattle.cb_lsp.specs.Questions.{Asked, in_file, incoming, outgoing, rename, workspace_symbols}
 use Rattle.cb_lsp.specs.declared.question.FileQuestion.{FileQuestion}
 use Rattle.cb_lsp.specs.declared.question.FileQuestion.TheVariants.{Symbols, Definition, Hover}
 use Rattle.cb_lsp.specs.declared.question.FileQuestion.TheVariants.{Highlights, References}
+use Rattle.cb_lsp.specs.declared.question.FileQuestion.TheVariants.{Callables, PrepareRename}
+use Rattle.cb_lsp.specs.declared.question.FileQuestion.TheVariants.{Completions}
 use Rattle.cb_lsp.specs.References.{references}
+use Rattle.cb_lsp.specs.Renames.{Unrenamed, prepared, renamable_at, renamed_at, unrenamed_text}
 use Rattle.cb_lsp.specs.Searches.{found_by}
 use Rattle.cb_lsp.specs.Symbols.{file_place, file_symbol, place_of, place_of_use}
 use Rattle.cb_lsp.specs.Symbols.{session_symbol}
@@ -34,6 +45,11 @@ use Rattle.cb_lsp.specs.Words.{word_at}
 -- a list: the first 2^48 elements, which no memory holds
 abbrev pub list_of : List Json → Json
 list_of js = array (items_of (take MOST_ELEMENTS js))
+
+-- the same, or null where nothing is listed
+abbrev pub some_of : List Json → Json
+some_of [] = null
+some_of (j ∷ js) = list_of (j ∷ js)
 
 -- ---- at a place of a file
 
@@ -81,6 +97,12 @@ references_of_word c w name text declarations None = list_of []
 references_of_word c w name text declarations (Some word) =
     list_of (map (place_of_use c w.files) (word_references w name text word declarations))
 
+-- the functions and macros that a word means
+abbrev pub callables_at : Client → World → (name text : List ℕ) → Option Span → Json
+callables_at c w name text None = null
+callables_at c w name text (Some word) =
+    some_of (map (item_of c w.files) (callables (word_meaning w name text word)))
+
 -- ---- of a file
 
 -- a question about the file of this name and text
@@ -97,6 +119,12 @@ answer_in c w name text (Highlights p) =
     (word_at text (place c.encoding text p))
 answer_in c w name text (References p declarations) =
     references_of_word c w name text declarations (word_at text (place c.encoding text p))
+answer_in c w name text (Callables p) =
+    callables_at c w name text (word_at text (place c.encoding text p))
+answer_in c w name text (Completions p) =
+    completions_of (completing w (word_before text (place c.encoding text p)))
+answer_in c w name text (PrepareRename p) =
+    prepared c text (renamable_at w text (place c.encoding text p))
 
 -- the same about a file of this name, if there is one
 abbrev pub answer_named : Client → World → FileQuestion → Option (List ℕ) → Json
@@ -104,12 +132,33 @@ answer_named c w question None = null
 answer_named c w question (Some name) =
     if has_file w.files name then answer_in c w name (text_of_file w.files name) question else null
 
+-- who calls a name that stands in the file of this name, if there is one
+abbrev pub incoming_named : Client → World → (name : List ℕ) → Option (List ℕ) → Json
+incoming_named c w name None = null
+incoming_named c w name (Some file) =
+    if has_file w.files file then list_of (incoming_calls c w name file) else null
+
+-- what is called by what has a name at a position of the file of this name, if there is one
+abbrev pub outgoing_named : Client → World → (name : List ℕ) → Position → Option (List ℕ) → Json
+outgoing_named c w name p None = null
+outgoing_named c w name p (Some file) =
+    if has_file w.files file
+    then list_of (outgoing_calls c w file (text_of_file w.files file) name p) else null
+
 -- the name of the file of a URI
 abbrev pub name_of_uri : Client → List ℕ → Option (List ℕ)
 name_of_uri c uri = option_map (name_below c.root.path) (path_of uri)
 
--- the answer to a question
-abbrev pub answer_to : Client → World → Asked → Json
-answer_to c w (in_file uri question) = answer_named c w question (name_of_uri c uri)
+-- the answer to a question; a name that is asked to be changed may have to stay
+abbrev pub answer_to : Client → Work → Asked → Result Json Unrenamed
+answer_to c w (in_file uri question) = Ok (answer_named c w.world question (name_of_uri c uri))
 answer_to c w (workspace_symbols query) =
-    array (items_of (map (session_symbol c w.files) (found_by w query)))
+    Ok (array (items_of (map (session_symbol c w.world.files) (found_by w.world query))))
+answer_to c w (rename uri position new) = renamed_at c w position new (name_of_uri c uri)
+answer_to c w (incoming name uri) = Ok (incoming_named c w.world name (name_of_uri c uri))
+answer_to c w (outgoing name uri p) = Ok (outgoing_named c w.world name p (name_of_uri c uri))
+
+-- the reply with an answer
+abbrev pub answer_reply : (id : Json) → Result Json Unrenamed → Json
+answer_reply id (Ok answer) = result_reply id answer
+answer_reply id (Err why) = error_reply id RequestFailed (unrenamed_text why)

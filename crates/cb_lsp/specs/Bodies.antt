@@ -10,6 +10,7 @@ use Rattle.cb_tags.specs.Writing.{Puts}
 use Rattle.cb_wire.specs.Messages.{IsId, has, text_of}
 use Rattle.cb_wire.specs.Texts.{frame}
 use Rattle.cb_wire.specs.Values.{value_text}
+use Rattle.cb_lsp.specs.Documents.{Oracle}
 use Rattle.cb_lsp.specs.Messages.{Message, Outcome, Serving, does, is_exit, log_of, not_json}
 use Rattle.cb_lsp.specs.Messages.{not_request, notification, out_of_memory, replies, reply}
 use Rattle.cb_lsp.specs.Messages.{request}
@@ -44,20 +45,20 @@ IsMessage text m = IsValue (document (text_of text)) m
 
 -- ---- turns
 
--- a message that was read, and where memory was refused to it; or a body that memory was refused to
--- as it was read
+-- a message that was read, and what the machine decided while it was taken; or a body that memory
+-- was refused to as it was read
 pub data Turn : Type 0 where
-  taken : (m : Message) (refusals : List Bool) → Turn
+  taken : (m : Message) (o : Oracle) → Turn
   refused : Turn
 
 -- the client ends the run by it
 abbrev pub is_last : Turn → Bool
-is_last (taken m refusals) = is_exit m
+is_last (taken m o) = is_exit m
 is_last refused = false
 
 -- what a turn does
 abbrev pub outcome : Serving → Turn → Outcome
-outcome s (taken m refusals) = does refusals s m
+outcome s (taken m o) = does o s m
 outcome s refused = replies s (log_of out_of_memory)
 
 -- a server after it
@@ -85,7 +86,7 @@ Takes t s next old new result =
 
 -- a turn whose message is known
 abbrev pub IsOf : (Message → Type 0) → Turn → Type 0
-IsOf P (taken m refusals) = P m
+IsOf P (taken m o) = P m
 IsOf P refused = Unit {0}
 
 -- a turn is taken whose message is known by its body

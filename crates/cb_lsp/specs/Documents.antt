@@ -12,8 +12,9 @@ use Rattle.cb_desk.specs.World.{File, World, has_file, text_of_file}
 use Rattle.cb_wire.specs.declared.units.Encoding.{Encoding}
 use Rattle.cb_lsp.specs.Changes.{TextChange, text_by}
 
--- the text that a file has again when its document is closed: the one that it has then, another
--- one, or the one that it had when the document was opened or saved
+-- the text that a file has again when its document is closed, where it is not found in the file
+-- system: the one that it has then, another one, or the one that it had when the document was opened
+-- or saved
 pub data Kept : Type 0 where
   nothing : Kept
   present : Kept
@@ -36,6 +37,20 @@ pub record Told : Type 0 where
   pub work : Work
   pub told : Option (List ℕ)
 
+-- what is found where a file is read again: none; one that cannot be read; one for whose bytes
+-- memory is refused; or its bytes
+pub data Reading : Type 0 where
+  gone : Reading
+  unreadable : Reading
+  no_room : Reading
+  holds : List ℕ → Reading
+
+-- what the machine decides while a message is taken: where memory is refused, and what is found
+-- where files are read again, each in turn
+pub record Oracle : Type 0 where
+  pub refusals : List Bool
+  pub found : List Reading
+
 -- whether memory was refused first, and what is said of what comes after
 abbrev pub first_refusal : List Bool → Bool
 first_refusal [] = false
@@ -44,6 +59,26 @@ first_refusal (m ∷ ms) = m
 abbrev pub later_refusals : List Bool → List Bool
 later_refusals [] = []
 later_refusals (m ∷ ms) = ms
+
+-- what is found first, and what comes after
+abbrev pub first_found : List Reading → Reading
+first_found [] = gone
+first_found (f ∷ fs) = f
+
+abbrev pub later_found : List Reading → List Reading
+later_found [] = []
+later_found (f ∷ fs) = fs
+
+-- what is decided behind the first refusal, and what behind a file event, which has two of them and
+-- reads once
+abbrev pub later : Oracle → Oracle
+later o = record { refusals = later_refusals o.refusals; found = o.found }
+
+abbrev pub behind_event : Oracle → Oracle
+behind_event o = record {
+  refusals = later_refusals (later_refusals o.refusals);
+  found = later_found o.found;
+}
 
 -- ---- documents
 
@@ -69,6 +104,9 @@ without_document name (d ∷ ds) =
     if is_named name d then ds else d ∷ without_document name ds
 
 -- ---- texts
+
+abbrev pub unreadable_text : List ℕ
+unreadable_text = codes "cannot be read"
 
 -- a file is given a text
 abbrev pub text_step : List File → (name bytes : List ℕ) → Step
@@ -185,36 +223,55 @@ saved_as w d false = record {
 abbrev pub saved : Work → List ℕ → Told
 saved w name = if_open (λ d. saved_as w d d.lost) w (document_of w.documents name)
 
--- a file is given the text that was kept, or is left as it is
-abbrev pub after_close : Work → List ℕ → Result World Refusal → Told
-after_close w name (Ok next) = record {
-  work = record { world = next; documents = without_document name w.documents };
-  told = None;
-}
-after_close w name (Err why) = record {
-  work = record w { documents = without_document name w.documents };
-  told = Some (text_of why);
-}
+-- a file is given a text, if there is one
+abbrev pub after_step : Work → Result World Refusal → Told
+after_step w (Ok next) = record { work = record w { world = next }; told = None }
+after_step w (Err why) = record { work = w; told = Some (text_of why) }
 
-abbrev pub closed_to : Bool → Work → List ℕ → Kept → Told
-closed_to no_text w name nothing = after_close w name (Ok w.world)
-closed_to no_text w name present = after_close w name (Ok w.world)
-closed_to no_text w name (text bytes) =
-    after_close w name (taken no_text w.world (text_step w.world.files name bytes))
+abbrev pub given : Bool → Work → (name : List ℕ) → Option (List ℕ) → Told
+given no_text w name None = record { work = w; told = None }
+given no_text w name (Some new) =
+    after_step w (taken no_text w.world (text_step w.world.files name new))
 
--- a document is closed
-abbrev pub closed : List Bool → Work → List ℕ → Told
-closed refusals w name =
-    if_open (λ d. closed_to (first_refusal refusals) w name d.kept) w (document_of w.documents name)
+-- a file is given the text that is found; where there is no file, another one, if there is one;
+-- where it cannot be read it stays as it is
+abbrev pub given_found : Reading → Bool → Work → (name : List ℕ) → Option (List ℕ) → Told
+given_found gone no_text w name other = given no_text w name other
+given_found unreadable no_text w name other = record { work = w; told = Some unreadable_text }
+given_found no_room no_text w name other =
+    record { work = w; told = Some (text_of OutOfMemory) }
+given_found (holds new) no_text w name other = given no_text w name (Some new)
 
--- a file goes away
-abbrev pub after_removal : Work → Result World Refusal → Told
-after_removal w (Ok next) = record { work = record w { world = next }; told = None }
-after_removal w (Err why) = record { work = w; told = Some (text_of why) }
+-- the text that is kept, if it is another one
+abbrev pub kept_text : Kept → Option (List ℕ)
+kept_text nothing = None
+kept_text present = None
+kept_text (text other) = Some other
+
+abbrev pub without : List ℕ → Work → Work
+without name w = record w { documents = without_document name w.documents }
+
+-- a document is closed: its file becomes what is found, or has the text again that was kept
+abbrev pub closed : Oracle → Work → List ℕ → Told
+closed o w name =
+    if_open (λ d. given_found (first_found o.found) (first_refusal o.refusals) (without name w) name
+    (kept_text d.kept)) w (document_of w.documents name)
 
 -- a file that is gone is taken away, unless its document is open or there is no such file
 abbrev pub removed : Bool → Work → List ℕ → Told
 removed no_memory w name =
     if is_open w.documents name || not (has_file w.world.files name)
     then record { work = w; told = None }
-    else after_removal w (taken no_memory w.world (unload name))
+    else after_step w (taken no_memory w.world (unload name))
+
+-- a file that was written is read again, unless its document is open; one that is not there yet is
+-- taken in where it may enter
+abbrev pub is_renewed : Work → (may_enter : Bool) → List ℕ → Bool
+is_renewed w may_enter name =
+    not (is_open w.documents name) && (has_file w.world.files name || may_enter)
+
+abbrev pub renewed : Oracle → Work → (may_enter : Bool) → List ℕ → Told
+renewed o w may_enter name =
+    if is_renewed w may_enter name
+    then given_found (first_found o.found) (first_refusal o.refusals) w name None
+    else record { work = w; told = None }

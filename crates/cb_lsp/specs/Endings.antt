@@ -17,9 +17,9 @@ use Rattle.cb_lsp.specs.Bodies.{IsMessage, Turn, after, is_last, refused, reply_
 
 -- the first message of a stream, and what follows it
 abbrev pub IsNext : First → Turn → List ℕ → Type 0
-IsNext (body text after) (taken m refusals) rest = IsMessage text m × (rest ≡ after)
+IsNext (body text after) (taken m o) rest = IsMessage text m × (rest ≡ after)
 IsNext (body text after) refused rest = rest ≡ after
-IsNext (too_long after) (taken m refusals) rest = (m ≡ too_large) × (rest ≡ after)
+IsNext (too_long after) (taken m o) rest = (m ≡ too_large) × (rest ≡ after)
 IsNext (too_long after) refused rest = ⊥
 IsNext bad_header t rest = ⊥
 IsNext cut_off t rest = ⊥

@@ -1,11 +1,13 @@
 -- What names mean in files, computed. The expected values are worked out by hand.
-use Rattle.std.specs.Prelude.{◌≡◌, ℕ, Bool, true, false, List, [], ◌∷◌, codes, None, refl}
+use Rattle.std.specs.Prelude.{◌≡◌, ℕ, Bool, true, false, List, [], ◌∷◌, codes, None, Some, refl}
 use Rattle.cb_index.specs.Rows.{Fact}
 use Rattle.cb_scan.specs.declared.facts.Kind.{Kind}
 use Rattle.cb_scan.specs.declared.facts.Kind.TheVariants.{Function, Variable, Prototype}
 use Rattle.cb_tags.specs.TagLines.{Tag}
 use Rattle.cb_lsp.specs.Meaning.{is_private, meaning}
+use Rattle.cb_lsp.specs.Documents.{Document, document_of, present}
 use Rattle.cb_lsp.specs.References.{references}
+use Rattle.cb_lsp.specs.Renames.{files_of, first_unopened, uses_in}
 use Rattle.cb_lsp.specs.Searches.{is_like}
 
 -- the definition of `f` in a file, `static` or not
@@ -118,3 +120,27 @@ pub without_any_definition : references (private_in_b ∷ private_in_c ∷ []) (
     ≡ use_in (codes "a.c") 0 ∷ use_in (codes "a.c") 7 ∷ use_in (codes "a.c") 7 ∷ []
 unfolding is_private
 without_any_definition = refl
+
+-- ---- renames
+
+-- each file once, in the order of the first uses
+pub used_in : files_of uses ≡ codes "a.c" ∷ codes "b.c" ∷ codes "c.c" ∷ []
+unfolding files_of
+used_in = refl
+
+pub uses_in_one : uses_in (codes "b.c") uses ≡ use_in (codes "b.c") 0 ∷ use_in (codes "b.c") 7 ∷ []
+uses_in_one = refl
+
+-- a file is open, and another one, whose last text was refused
+abbrev documents : List Document
+documents =
+    record { name = codes "a.c"; kept = present; lost = false }
+    ∷ record { name = codes "b.c"; kept = present; lost = true } ∷ []
+
+pub not_all_are_open : first_unopened documents uses ≡ Some (codes "b.c")
+unfolding document_of
+not_all_are_open = refl
+
+pub all_are_open : first_unopened documents (uses_in (codes "a.c") uses) ≡ None
+unfolding document_of
+all_are_open = refl

@@ -1,5 +1,5 @@
 -- What a message does to a server, and what is written.
-use Rattle.std.specs.Prelude.{ℕ, Bool, true, false, ◌&&◌, ◌||◌, ◌++◌, nat_eq, List, [], ◌∷◌}
+use Rattle.std.specs.Prelude.{ℕ, Bool, true, false, not, ◌&&◌, ◌||◌, ◌++◌, nat_eq, List, [], ◌∷◌}
 use Rattle.std.specs.Prelude.{codes, Option, None, Some, Result, Ok, Err, if◌then◌else◌}
 use Rattle.std.specs.List.{ends_with}
 use Rattle.std.specs.Str.{bytes_eq}
@@ -13,20 +13,24 @@ use Rattle.cb_wire.specs.declared.reply.ErrorCode.TheVariants.{ServerNotInitiali
 use Rattle.cb_wire.specs.declared.reply.ErrorCode.TheVariants.{MethodNotFound, InvalidParams}
 use Rattle.cb_wire.specs.declared.reply.ErrorCode.TheVariants.{RequestFailed}
 use Rattle.cb_wire.specs.Trees.{error_reply, notice_tree, result_reply}
+use Rattle.cb_wire.specs.Watchers.{watch_request}
 use Rattle.cb_wire.specs.Welcome.{welcome}
 use Rattle.cb_wire.specs.Uris.{Below, escaped, escaped_path, name_below, of_uri, path_of}
 use Rattle.cb_lsp.specs.declared.notice.Notice.{Notice}
-use Rattle.cb_lsp.specs.declared.notice.Notice.TheVariants.{Open, Change, Save, Close, Files}
+use Rattle.cb_lsp.specs.declared.notice.Notice.TheVariants.{Ready, Open, Change, Save, Close, Files}
+use Rattle.cb_lsp.specs.declared.notice.FileEvent.{FileEvent}
+use Rattle.cb_lsp.specs.declared.notice.FileEvent.TheVariants.{Written, Gone}
 use Rattle.cb_lsp.specs.declared.question.Unasked.{Unasked}
 use Rattle.cb_lsp.specs.declared.question.Unasked.TheVariants.{UnknownMethod, BadParameters}
 use Rattle.cb_lsp.specs.declared.server.Stage.{Stage}
 use Rattle.cb_lsp.specs.declared.server.Stage.TheVariants.{Fresh, Running, Down}
-use Rattle.cb_lsp.specs.Answers.{answer_to}
+use Rattle.cb_lsp.specs.Answers.{answer_reply, answer_to}
 use Rattle.cb_lsp.specs.Clients.{Client}
-use Rattle.cb_lsp.specs.Documents.{Told, Work, changed, closed, first_refusal, later_refusals}
-use Rattle.cb_lsp.specs.Documents.{opened, removed, saved}
-use Rattle.cb_lsp.specs.Params.{changes_in, document_text, is_deletion, items_in, member_of}
-use Rattle.cb_lsp.specs.Params.{root_in, takes_trees, takes_utf8, text_in, uri_in}
+use Rattle.cb_lsp.specs.Documents.{Oracle, Told, Work, behind_event, changed, closed, first_refusal}
+use Rattle.cb_lsp.specs.Documents.{later, opened, removed, renewed, saved}
+use Rattle.cb_lsp.specs.Params.{changes_in, document_text, event_of, items_in, member_of}
+use Rattle.cb_lsp.specs.Params.{prepares_renames, root_in, takes_trees, takes_utf8, takes_watchers}
+use Rattle.cb_lsp.specs.Params.{text_in, uri_in}
 use Rattle.cb_lsp.specs.Questions.{Asked, asked_by}
 
 -- a message that was read
@@ -41,14 +45,15 @@ pub data Message : Type 0 where
   -- a body that was dropped
   too_large : Message
 
--- a server: its files and documents, what its client takes, whether its root was given, its version
--- and how far the client is
+-- a server: its files and documents, what its client takes, whether its root was given, its version,
+-- how far the client is, and whether the client tells of files that are written when it is asked to
 pub record Serving : Type 0 where
   pub work : Work
   pub client : Client
   pub rooted : Bool
   pub version : List ℕ
   pub stage : Stage
+  pub watches : Bool
 
 -- a server after a message, and what is written, a value a message
 pub record Outcome : Type 0 where
@@ -76,6 +81,11 @@ out_of_memory = codes "out of memory"
 abbrev pub out_of_memory_reply : Json → Json
 out_of_memory_reply id = error_reply id RequestFailed out_of_memory
 
+-- a result, unless memory was refused to it
+abbrev pub result_unless : Bool → (id result : Json) → Json
+result_unless true id j = out_of_memory_reply id
+result_unless false id j = result_reply id j
+
 -- ---- requests
 
 -- the root that a URI names, or else the one that was there
@@ -99,6 +109,7 @@ fresh_server w root rooted version = record {
   rooted = rooted;
   version = version;
   stage = Fresh;
+  watches = false;
 }
 
 -- a server with the root of a client, unless its own was given
@@ -126,8 +137,8 @@ abbrev pub initialized : Bool → Serving → Json → Option Json → Outcome
 initialized true s id params = replies s (out_of_memory_reply id)
 initialized false s id params =
     let c = client_of s params in
-    replies (record s { client = c; stage = Running })
-    (result_reply id (welcome c.encoding s.version))
+    replies (record s { client = c; stage = Running; watches = takes_watchers params })
+    (result_reply id (welcome c.encoding (prepares_renames params) s.version))
 
 abbrev pub unasked_reply : Json → Unasked → Json
 unasked_reply id UnknownMethod = error_reply id MethodNotFound (codes "unknown method")
@@ -136,7 +147,7 @@ unasked_reply id BadParameters = error_reply id InvalidParams (codes "bad parame
 abbrev pub asked_reply : Bool → Serving → Json → Result Asked Unasked → Json
 asked_reply no_memory s id (Err why) = unasked_reply id why
 asked_reply true s id (Ok asked) = out_of_memory_reply id
-asked_reply false s id (Ok asked) = result_reply id (answer_to s.client s.work.world asked)
+asked_reply false s id (Ok asked) = answer_reply id (answer_to s.client s.work asked)
 
 -- a request to a server that runs
 abbrev pub running : Bool → Serving → Json → List ℕ → Option Json → Outcome
@@ -165,6 +176,11 @@ stays s = record { server = s; written = [] }
 abbrev pub moved : Serving → List ℕ → Told → Outcome
 moved s name t = record { server = record s { work = t.work }; written = show_if name t.told }
 
+-- a client that is ready is asked to tell of the C files that are written, where it can
+abbrev pub registers : Serving → Bool → Outcome
+registers s true = replies s watch_request
+registers s false = stays s
+
 -- a text of a document is opened, if there is one
 abbrev pub opened_with : List Bool → Work → List ℕ → Option (List ℕ) → Told
 opened_with refusals w name None = record { work = w; told = None }
@@ -173,24 +189,29 @@ opened_with refusals w name (Some text) = opened refusals w name text
 -- the notification of a method, if it does something
 abbrev pub notice_of : List ℕ → Option Notice
 notice_of method =
-    if bytes_eq method (codes "textDocument/didOpen") then Some Open
+    if bytes_eq method (codes "initialized") then Some Ready
+    else (if bytes_eq method (codes "textDocument/didOpen") then Some Open
     else (if bytes_eq method (codes "textDocument/didChange") then Some Change
     else (if bytes_eq method (codes "textDocument/didSave") then Some Save
     else (if bytes_eq method (codes "textDocument/didClose") then Some Close
     else (if bytes_eq method (codes "workspace/didChangeWatchedFiles") then Some Files
-    else None))))
+    else None)))))
 
 -- one about the document of a file
-abbrev pub told_of : Encoding → Notice → List Bool → Work → Option Json → List ℕ → Told
-told_of e Open refusals w params name = opened_with refusals w name (document_text params)
-told_of e Change refusals w params name = changed e refusals w name (changes_in params)
-told_of e Save refusals w params name = saved w name
-told_of e Close refusals w params name = closed refusals w name
-told_of e Files refusals w params name = record { work = w; told = None }
+abbrev pub told_of : Encoding → Notice → Oracle → Work → Option Json → List ℕ → Told
+told_of e Open o w params name = opened_with o.refusals w name (document_text params)
+told_of e Change o w params name = changed e o.refusals w name (changes_in params)
+told_of e Save o w params name = saved w name
+told_of e Close o w params name = closed o w name
+told_of e _ o w params name = record { work = w; told = None }
 
 abbrev pub is_opening : Notice → Bool
 is_opening Open = true
 is_opening _ = false
+
+abbrev pub is_closing : Notice → Bool
+is_closing Close = true
+is_closing _ = false
 
 -- a path ends as the name of a file does
 abbrev pub ends_as_c : List ℕ → Bool
@@ -202,91 +223,99 @@ bad_name s notice path =
     if ends_as_c path && is_opening notice
     then replies s (show_of (escaped path) (codes "bad name")) else stays s
 
-abbrev pub noticed_at : Notice → List Bool → Serving → Option Json → List ℕ → Outcome
-noticed_at notice refusals s params path =
+abbrev pub noticed_at : Notice → Oracle → Serving → Option Json → List ℕ → Outcome
+noticed_at notice o s params path =
     let name = name_below s.client.root.path path in
     if is_file_name name
-    then moved s name (told_of s.client.encoding notice refusals s.work params name)
+    then moved s name (told_of s.client.encoding notice o s.work params name)
     else bad_name s notice path
 
-abbrev pub noticed_on : Notice → List Bool → Serving → Option Json → Option (List ℕ) → Outcome
-noticed_on notice refusals s params None = stays s
-noticed_on notice refusals s params (Some path) = noticed_at notice refusals s params path
+abbrev pub noticed_on : Notice → Oracle → Serving → Option Json → Option (List ℕ) → Outcome
+noticed_on notice o s params None = stays s
+noticed_on notice o s params (Some path) = noticed_at notice o s params path
 
 -- memory may be refused to the path of a URI
 abbrev pub unread : Serving → List ℕ → Outcome
 unread s uri = replies s (show_of uri out_of_memory)
 
-abbrev pub noticed_of : Notice → List Bool → Serving → Option Json → Option (List ℕ) → Outcome
-noticed_of notice refusals s params None = stays s
-noticed_of notice refusals s params (Some uri) =
-    if first_refusal refusals then unread s uri
-    else noticed_on notice (later_refusals refusals) s params (path_of uri)
+abbrev pub noticed_of : Notice → Oracle → Serving → Option Json → Option (List ℕ) → Outcome
+noticed_of notice o s params None = stays s
+noticed_of notice o s params (Some uri) =
+    if first_refusal o.refusals then unread s uri
+    else noticed_on notice (later o) s params (path_of uri)
 
 -- ---- file events
 
-abbrev pub removed_at : Bool → Serving → Option (List ℕ) → Outcome
-removed_at no_memory s None = stays s
-removed_at no_memory s (Some path) =
+-- a file of a path that goes away, or that was written; one below the root may be taken in
+abbrev pub may_enter : (path name : List ℕ) → Bool
+may_enter path name = is_file_name name && not (bytes_eq name path)
+
+abbrev pub happened_at : FileEvent → Oracle → Serving → Option (List ℕ) → Outcome
+happened_at event o s None = stays s
+happened_at Gone o s (Some path) =
     let name = name_below s.client.root.path path in
-    moved s name (removed no_memory s.work name)
+    moved s name (removed (first_refusal o.refusals) s.work name)
+happened_at Written o s (Some path) =
+    let name = name_below s.client.root.path path in
+    moved s name (renewed o s.work (may_enter path name) name)
 
-abbrev pub removed_of : List Bool → Serving → Option (List ℕ) → Outcome
-removed_of refusals s None = stays s
-removed_of refusals s (Some uri) =
-    if first_refusal refusals then unread s uri
-    else removed_at (first_refusal (later_refusals refusals)) s (path_of uri)
+abbrev pub happened_to : FileEvent → Oracle → Serving → Option (List ℕ) → Outcome
+happened_to event o s None = stays s
+happened_to event o s (Some uri) =
+    if first_refusal o.refusals then unread s uri else happened_at event (later o) s (path_of uri)
 
--- a file event: of those that say that a file is gone
-abbrev pub happened : List Bool → Serving → Json → Outcome
-happened refusals s event =
-    if is_deletion event then removed_of refusals s (text_in (get (codes "uri") event)) else stays s
+-- a file event, if it is one
+abbrev pub happened_as : Option FileEvent → Oracle → Serving → Json → Outcome
+happened_as None o s event = stays s
+happened_as (Some kind) o s event = happened_to kind o s (text_in (get (codes "uri") event))
+
+abbrev pub happened : Oracle → Serving → Json → Outcome
+happened o s event = happened_as (event_of event) o s event
 
 -- what comes after an outcome
 abbrev pub and_then : Outcome → Outcome → Outcome
 and_then first next = record { server = next.server; written = first.written ++ next.written }
 
--- events in turn; what is said of memory has two parts for each
-unfoldable pub all_happened : List Bool → Serving → Items → Outcome
-all_happened refusals s no_items = stays s
-all_happened refusals s (item event more) =
-    let first = happened refusals s event in
-    and_then first
-    (all_happened (later_refusals (later_refusals refusals)) first.server more)
+-- events in turn
+unfoldable pub all_happened : Oracle → Serving → Items → Outcome
+all_happened o s no_items = stays s
+all_happened o s (item event more) =
+    let first = happened o s event in
+    and_then first (all_happened (behind_event o) first.server more)
 
-abbrev pub happened_in : List Bool → Serving → Option Items → Outcome
-happened_in refusals s None = stays s
-happened_in refusals s (Some events) = all_happened refusals s events
+abbrev pub happened_in : Oracle → Serving → Option Items → Outcome
+happened_in o s None = stays s
+happened_in o s (Some events) = all_happened o s events
 
 -- a notification to a server that runs
-abbrev pub noticed_as : Notice → List Bool → Serving → Option Json → Outcome
-noticed_as Files refusals s params =
-    happened_in refusals s (items_in (member_of (codes "changes") params))
-noticed_as notice refusals s params = noticed_of notice refusals s params (uri_in params)
+abbrev pub noticed_as : Notice → Oracle → Serving → Option Json → Outcome
+noticed_as Ready o s params = registers s s.watches
+noticed_as Files o s params = happened_in o s (items_in (member_of (codes "changes") params))
+noticed_as notice o s params = noticed_of notice o s params (uri_in params)
 
-abbrev pub noticed_if : Option Notice → List Bool → Serving → Option Json → Outcome
-noticed_if None refusals s params = stays s
-noticed_if (Some notice) refusals s params = noticed_as notice refusals s params
+abbrev pub noticed_if : Option Notice → Oracle → Serving → Option Json → Outcome
+noticed_if None o s params = stays s
+noticed_if (Some notice) o s params = noticed_as notice o s params
 
-abbrev pub noticed : List Bool → Serving → (method : List ℕ) → Option Json → Outcome
-noticed refusals s method params = noticed_if (notice_of method) refusals s params
+abbrev pub noticed : Oracle → Serving → (method : List ℕ) → Option Json → Outcome
+noticed o s method params = noticed_if (notice_of method) o s params
 
-abbrev pub noticed_by : Stage → List Bool → Serving → (method : List ℕ) → Option Json → Outcome
-noticed_by Running refusals s method params = noticed refusals s method params
-noticed_by Fresh refusals s method params = stays s
-noticed_by Down refusals s method params = stays s
+abbrev pub noticed_by : Stage → Oracle → Serving → (method : List ℕ) → Option Json → Outcome
+noticed_by Running o s method params = noticed o s method params
+noticed_by Fresh o s method params = stays s
+noticed_by Down o s method params = stays s
 
 -- ---- messages
 
--- what a message does; the list says where memory was refused to it
-unfoldable pub does : List Bool → Serving → Message → Outcome
-does refusals s not_json = replies s (log_of (codes "not JSON"))
-does refusals s not_request = replies s (log_of (codes "not a request"))
-does refusals s reply = stays s
-does refusals s too_large = replies s (log_of (codes "too large"))
-does refusals s (notification method params) = noticed_by s.stage refusals s method params
-does refusals s (request id method params) =
-    requested s.stage (first_refusal refusals) s id method params
+-- what a message does, as the machine decides
+unfoldable pub does : Oracle → Serving → Message → Outcome
+does o s not_json = replies s (log_of (codes "not JSON"))
+does o s not_request = replies s (log_of (codes "not a request"))
+does o s reply = stays s
+does o s too_large = replies s (log_of (codes "too large"))
+does o s (notification method params) = noticed_by s.stage o s method params
+does o s (request id method params) =
+    requested s.stage (first_refusal o.refusals) s id method params
 
 -- the client ends a run by this message
 abbrev pub is_exit : Message → Bool

@@ -6,9 +6,14 @@ use Rattle.cb_lsp.specs.declared.change.TextChange.TheVariants.{Part, Whole}
 use Rattle.cb_lsp.specs.Changes.{TextChange, part, whole}
 use Rattle.cb_lsp.specs.declared.documents.Kept.{Kept as CodeKept}
 use Rattle.cb_lsp.specs.declared.documents.Kept.TheVariants.{Nothing, Present, Text}
-use Rattle.cb_lsp.specs.Documents.{Kept, nothing, present, text}
+use Rattle.cb_lsp.specs.declared.disk.Found.{Found as CodeFound}
+use Rattle.cb_lsp.specs.declared.disk.Found.TheVariants.{Gone as CodeGone, Unreadable, NoRoom}
+use Rattle.cb_lsp.specs.declared.disk.Found.TheVariants.{Holds}
+use Rattle.cb_lsp.specs.Documents.{Reading, Kept, gone, holds, no_room, nothing, present, text}
+use Rattle.cb_lsp.specs.Documents.{unreadable}
 use Rattle.cb_lsp.specs.declared.question.Question.{Question}
-use Rattle.cb_lsp.specs.declared.question.Question.TheVariants.{InFile, WorkspaceSymbols}
+use Rattle.cb_lsp.specs.declared.question.Question.TheVariants.{InFile, Incoming, Outgoing, Rename}
+use Rattle.cb_lsp.specs.declared.question.Question.TheVariants.{WorkspaceSymbols}
 use Rattle.cb_lsp.specs.declared.question.Unasked.{Unasked}
 use Rattle.cb_wire.specs.declared.message.Message.{Message as CodeMessage}
 use Rattle.cb_wire.specs.declared.message.Message.TheVariants.{NotRequest, Notification, Reply}
@@ -16,12 +21,15 @@ use Rattle.cb_wire.specs.declared.message.Message.TheVariants.{Request}
 use Rattle.cb_wire.specs.Messages.{id_json}
 use Rattle.cb_lsp.specs.Messages.{Message, not_request, notification, reply, request}
 use Rattle.cb_lsp.specs.steps.Values.{seen}
-use Rattle.cb_lsp.specs.Questions.{Asked, in_file, workspace_symbols}
+use Rattle.cb_lsp.specs.Questions.{Asked, in_file, incoming, outgoing, rename, workspace_symbols}
 
 -- what a question asks
 abbrev pub asked_of : Question → Asked
 asked_of (InFile uri question) = in_file uri.now question
 asked_of (WorkspaceSymbols query) = workspace_symbols query.now
+asked_of (Incoming name uri) = incoming name.now uri.now
+asked_of (Outgoing name uri position) = outgoing name.now uri.now position
+asked_of (Rename uri position new) = rename uri.now position new.now
 
 -- what a question asks, where there is one
 abbrev pub asked_in : Result Question Unasked → Result Asked Unasked
@@ -32,6 +40,13 @@ asked_in (Err reason) = Err reason
 abbrev pub change_seen : CodeChange → TextChange
 change_seen (Whole new) = whole new.now
 change_seen (Part range new) = part range new.now
+
+-- what is found of a file
+abbrev pub found_in : CodeFound → Reading
+found_in CodeGone = gone
+found_in Unreadable = unreadable
+found_in NoRoom = no_room
+found_in (Holds bytes) = holds bytes.items
 
 -- the text that is kept
 abbrev pub kept_of : CodeKept → Kept

@@ -9,6 +9,8 @@ use Rattle.json.specs.Json.{Json, Items, no_items, item, null}
 use Rattle.cb_wire.specs.declared.position.Position.{Position}
 use Rattle.cb_wire.specs.declared.position.Range.{Range}
 use Rattle.cb_lsp.specs.Changes.{TextChange, or_else, part, whole}
+use Rattle.cb_lsp.specs.declared.notice.FileEvent.{FileEvent}
+use Rattle.cb_lsp.specs.declared.notice.FileEvent.TheVariants.{Written, Gone}
 
 -- a member of a value, if both are there
 abbrev pub member_of : List ℕ → Option Json → Option Json
@@ -82,6 +84,23 @@ position_in params = position_at (member_of (codes "position") params)
 abbrev pub declarations_in : Option Json → Option Bool
 declarations_in params =
     bool_in (member_of (codes "includeDeclaration") (member_of (codes "context") params))
+
+-- `item.name` and `item.uri`
+abbrev pub item_name : Option Json → Option (List ℕ)
+item_name params = text_in (member_of (codes "name") (member_of (codes "item") params))
+
+abbrev pub item_uri : Option Json → Option (List ℕ)
+item_uri params = text_in (member_of (codes "uri") (member_of (codes "item") params))
+
+-- `item.selectionRange.start`
+abbrev pub item_start : Option Json → Option Position
+item_start params =
+    position_at (member_of (codes "start")
+    (member_of (codes "selectionRange") (member_of (codes "item") params)))
+
+-- `newName`
+abbrev pub new_name_in : Option Json → Option (List ℕ)
+new_name_in params = text_in (member_of (codes "newName") params)
 
 -- ---- of changes
 
@@ -177,6 +196,12 @@ takes_trees params =
     (member_of (codes "documentSymbol") (member_of (codes "textDocument")
     (member_of (codes "capabilities") params))))
 
+-- `capabilities.textDocument.rename.prepareSupport` is true
+abbrev pub prepares_renames : Option Json → Bool
+prepares_renames params =
+    is_true (member_of (codes "prepareSupport") (member_of (codes "rename")
+    (member_of (codes "textDocument") (member_of (codes "capabilities") params))))
+
 -- `workspaceFolders[0].uri`, or else `rootUri`
 abbrev pub root_in : Option Json → Option (List ℕ)
 root_in params =
@@ -184,10 +209,18 @@ root_in params =
     (first_of (member_of (codes "workspaceFolders") params))))
     (text_in (member_of (codes "rootUri") params))
 
--- a file event says that the file is gone
-abbrev pub is_three : Option ℕ → Bool
-is_three None = false
-is_three (Some n) = n == 3
+-- `capabilities.workspace.didChangeWatchedFiles.dynamicRegistration` is true
+abbrev pub takes_watchers : Option Json → Bool
+takes_watchers params =
+    is_true (member_of (codes "dynamicRegistration") (member_of (codes "didChangeWatchedFiles")
+    (member_of (codes "workspace") (member_of (codes "capabilities") params))))
 
-abbrev pub is_deletion : Json → Bool
-is_deletion event = is_three (number_in (get (codes "type") event))
+-- ---- of file events
+
+-- what an event tells: a file was made (1), changed (2) or deleted (3)
+abbrev pub event_numbered : ℕ → Option FileEvent
+event_numbered n =
+    if n == 3 then Some Gone else (if n == 1 || n == 2 then Some Written else None)
+
+abbrev pub event_of : Json → Option FileEvent
+event_of event = option_and_then event_numbered (number_in (get (codes "type") event))

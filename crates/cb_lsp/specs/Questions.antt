@@ -4,17 +4,25 @@ use Rattle.std.specs.Prelude.{option_map, if◌then◌else◌}
 use Rattle.std.specs.Str.{bytes_eq}
 use Rattle.json.specs.Json.{Json}
 use Rattle.cb_wire.specs.declared.position.Position.{Position}
-use Rattle.cb_lsp.specs.Params.{declarations_in, position_in, query_in, uri_in}
+use Rattle.cb_lsp.specs.Params.{declarations_in, item_name, item_start, item_uri, new_name_in}
+use Rattle.cb_lsp.specs.Params.{position_in, query_in, uri_in}
 use Rattle.cb_lsp.specs.declared.question.FileQuestion.{FileQuestion}
 use Rattle.cb_lsp.specs.declared.question.FileQuestion.TheVariants.{Symbols, Definition, Hover}
 use Rattle.cb_lsp.specs.declared.question.FileQuestion.TheVariants.{Highlights, References}
+use Rattle.cb_lsp.specs.declared.question.FileQuestion.TheVariants.{Callables, PrepareRename}
+use Rattle.cb_lsp.specs.declared.question.FileQuestion.TheVariants.{Completions}
 use Rattle.cb_lsp.specs.declared.question.Unasked.{Unasked}
 use Rattle.cb_lsp.specs.declared.question.Unasked.TheVariants.{UnknownMethod, BadParameters}
 
--- what is asked: about the file of a URI, or for the symbols of the session that a query names
+-- what is asked: about the file of a URI; for the symbols of the session that a query names; how the
+-- word at a position of the file of a URI is given a new name; who calls a name that stands in the file of
+-- a URI; or what is called by what has a name at a position there
 pub data Asked : Type 0 where
   in_file : (uri : List ℕ) → FileQuestion → Asked
   workspace_symbols : (query : List ℕ) → Asked
+  rename : (uri : List ℕ) → Position → (new : List ℕ) → Asked
+  incoming : (name uri : List ℕ) → Asked
+  outgoing : (name uri : List ℕ) → Position → Asked
 
 -- a question at a position of a file
 abbrev pub at_place : (Position → FileQuestion) → Option (List ℕ) → Option Position → Option Asked
@@ -26,6 +34,21 @@ abbrev pub uses_at : Option (List ℕ) → Option Position → (declarations : O
 uses_at uri position None = None
 uses_at uri position (Some declarations) =
     at_place (λ p. References p declarations) uri position
+
+-- a question who calls a name that stands in the file of a URI
+abbrev pub calls_to : (name uri : Option (List ℕ)) → Option Asked
+calls_to (Some name) (Some uri) = Some (incoming name uri)
+calls_to _ _ = None
+
+-- a question what is called by what has a name at a position of the file of a URI
+abbrev pub calls_by : (name uri : Option (List ℕ)) → Option Position → Option Asked
+calls_by (Some name) (Some uri) (Some position) = Some (outgoing name uri position)
+calls_by _ _ _ = None
+
+-- a question how what stands at a position is given a new name
+abbrev pub rename_with : Option (List ℕ) → Option Position → (new : Option (List ℕ)) → Option Asked
+rename_with (Some uri) (Some position) (Some new) = Some (rename uri position new)
+rename_with _ _ _ = None
 
 -- wrong parameters make no question
 abbrev pub or_bad : Option Asked → Result Asked Unasked
@@ -45,6 +68,18 @@ asked_by method params =
     then or_bad (at_place Highlights (uri_in params) (position_in params))
     else (if bytes_eq method (codes "textDocument/references")
     then or_bad (uses_at (uri_in params) (position_in params) (declarations_in params))
+    else (if bytes_eq method (codes "textDocument/prepareRename")
+    then or_bad (at_place PrepareRename (uri_in params) (position_in params))
+    else (if bytes_eq method (codes "textDocument/rename")
+    then or_bad (rename_with (uri_in params) (position_in params) (new_name_in params))
     else (if bytes_eq method (codes "workspace/symbol")
     then or_bad (option_map workspace_symbols (query_in params))
-    else Err UnknownMethod)))))
+    else (if bytes_eq method (codes "textDocument/prepareCallHierarchy")
+    then or_bad (at_place Callables (uri_in params) (position_in params))
+    else (if bytes_eq method (codes "callHierarchy/incomingCalls")
+    then or_bad (calls_to (item_name params) (item_uri params))
+    else (if bytes_eq method (codes "textDocument/completion")
+    then or_bad (at_place Completions (uri_in params) (position_in params))
+    else (if bytes_eq method (codes "callHierarchy/outgoingCalls")
+    then or_bad (calls_by (item_name params) (item_uri params) (item_start params))
+    else Err UnknownMethod)))))))))))

@@ -11,9 +11,9 @@ use Rattle.cb_lsp.specs.Likes.{holds_like}
 use Rattle.cb_wire.specs.declared.position.Range.{Range}
 use Rattle.cb_lsp.specs.Changes.{part, whole}
 use Rattle.cb_lsp.specs.Params.{are_changes, changes_among, changes_in, has_text, number_in}
-use Rattle.cb_lsp.specs.Params.{root_in, takes_trees, takes_utf8}
-use Rattle.cb_lsp.specs.Questions.{asked_by, in_file, workspace_symbols}
-use Rattle.cb_lsp.specs.declared.question.FileQuestion.TheVariants.{Hover, References}
+use Rattle.cb_lsp.specs.Params.{prepares_renames, root_in, takes_trees, takes_utf8}
+use Rattle.cb_lsp.specs.Questions.{asked_by, in_file, rename, workspace_symbols}
+use Rattle.cb_lsp.specs.declared.question.FileQuestion.TheVariants.{Hover, PrepareRename, References}
 use Rattle.cb_lsp.specs.Words.{word_at}
 
 -- an object of one member
@@ -125,6 +125,17 @@ pub trees_are_taken : takes_trees (Some (one (codes "capabilities") (one (codes 
     (one (codes "hierarchicalDocumentSymbolSupport") (boolean true)))))) ≡ true
 trees_are_taken = refl
 
+abbrev asks_first : Json → Option Json
+asks_first support =
+    Some (one (codes "capabilities") (one (codes "textDocument") (one (codes "rename")
+    (one (codes "prepareSupport") support))))
+
+pub it_asks_first : prepares_renames (asks_first (boolean true)) ≡ true
+it_asks_first = refl
+
+pub it_does_not_ask : prepares_renames (asks_first (string (codes "true"))) ≡ false
+it_does_not_ask = refl
+
 -- ---- questions
 
 abbrev document : Json
@@ -154,6 +165,25 @@ where_it_is_used = refl
 pub with_or_without : asked_by (codes "textDocument/references") (uses_asked (object no_members))
     ≡ Err BadParameters
 with_or_without = refl
+
+-- a new name, which has to be told
+abbrev rename_asked : (new : Json) → Option Json
+rename_asked new =
+    Some (object (member (codes "newName") new (member (codes "textDocument") document
+    (member (codes "position") position no_members))))
+
+pub how_it_is_renamed : asked_by (codes "textDocument/rename") (rename_asked (string (codes "b")))
+    ≡ Ok (rename (codes "file:///a.c") (record { line = 2; character = 5 }) (codes "b"))
+how_it_is_renamed = refl
+
+pub a_wrong_name : asked_by (codes "textDocument/rename") (rename_asked (number (codes "7")))
+    ≡ Err BadParameters
+a_wrong_name = refl
+
+pub what_would_be_renamed : asked_by (codes "textDocument/prepareRename")
+    (rename_asked (string [])) ≡ Ok (in_file (codes "file:///a.c")
+    (PrepareRename (record { line = 2; character = 5 })))
+what_would_be_renamed = refl
 
 -- the document is not named at the top
 pub a_misplaced_document : asked_by (codes "textDocument/documentSymbol") (Some document)

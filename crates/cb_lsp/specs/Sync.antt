@@ -10,10 +10,12 @@ use Rattle.cb_desk.specs.World.{World, text_of_file}
 use Rattle.cb_lsp.specs.Changes.{TextChange, text_with}
 use Rattle.cb_lsp.specs.Clients.{Client}
 use Rattle.cb_lsp.specs.declared.notice.Notice.{Notice}
-use Rattle.cb_lsp.specs.declared.notice.Notice.TheVariants.{Open, Change, Save, Close, Files}
+use Rattle.cb_lsp.specs.declared.notice.Notice.TheVariants.{Ready, Open, Change, Save, Close}
+use Rattle.cb_lsp.specs.declared.notice.Notice.TheVariants.{Files}
 use Rattle.cb_lsp.specs.declared.server.Stage.{Stage}
 use Rattle.cb_lsp.specs.declared.server.Stage.TheVariants.{Fresh, Running, Down}
-use Rattle.cb_lsp.specs.Documents.{Document, Work, document_of}
+use Rattle.cb_lsp.specs.Documents.{Document, Reading, Oracle, Told, Work, document_of, removed}
+use Rattle.cb_lsp.specs.Documents.{renewed}
 use Rattle.cb_lsp.specs.Messages.{Message, Serving, does, fresh_server, notice_of, notification}
 use Rattle.cb_lsp.specs.Messages.{request, told_of}
 use Rattle.cb_lsp.specs.Params.{changes_in, document_text, uri_in}
@@ -56,6 +58,7 @@ text_changed e before (Some cs) = text_through e before cs
 
 -- the text that a client has of a document after its notification
 abbrev pub text_after : Encoding → Notice → Option Json → Option (List ℕ) → Option (List ℕ)
+text_after e Ready params before = before
 text_after e Open params before = text_or before (document_text params)
 text_after e Change params before = text_changed e before (changes_in params)
 text_after e Save params before = before
@@ -88,31 +91,46 @@ abbrev pub AreInSync : Work → Sent → Type 0
 AreInSync w sent = (name : List ℕ) (d : Document) → document_of w.documents name ≡ Some d
     → d.lost ≡ false → sent name ≡ Some (text_of_file w.world.files name)
 
+-- a message, and what is found where files are read again as it is taken
+abbrev pub Arrived : Type 0
+Arrived = Message × List Reading
+
+-- it is taken, and no memory is refused to it
+abbrev pub arrives : Serving → Arrived → Serving
+arrives s a = (does (record { refusals = []; found = a.1 }) s a.0).server
+
 -- a server, and what its client has, after messages to which no memory was refused
-unfoldable pub after_all : Serving → List Message → Serving
+unfoldable pub after_all : Serving → List Arrived → Serving
 after_all s [] = s
-after_all s (m ∷ ms) = after_all (does [] s m).server ms
+after_all s (a ∷ more) = after_all (arrives s a) more
 
-unfoldable pub sent_in_all : Serving → Sent → List Message → Sent
+unfoldable pub sent_in_all : Serving → Sent → List Arrived → Sent
 sent_in_all s sent [] = sent
-sent_in_all s sent (m ∷ ms) = sent_in_all (does [] s m).server (sent_after s sent m) ms
+sent_in_all s sent (a ∷ more) = sent_in_all (arrives s a) (sent_after s sent a.0) more
 
--- after any messages the documents of a server and of its client are the same
+-- after any messages, whatever is found, the documents of a server and of its client are the same
 abbrev pub DocumentsStayInSync : Type 0
 DocumentsStayInSync = (w : World) (root : Below) (rooted : Bool) (version : List ℕ)
-    (ms : List Message) → let s = fresh_server w root rooted version in
-    AreInSync (after_all s ms).work (sent_in_all s nothing_sent ms)
+    (arrived : List Arrived) → let s = fresh_server w root rooted version in
+    AreInSync (after_all s arrived).work (sent_in_all s nothing_sent arrived)
 
 -- ---- what changes no file
 
--- what is told of a document is told of a file that is as it was
+-- what is told of a document, or of a file that was written or deleted, is told of a file that is as
+-- it was
+abbrev pub LeavesFiles : Work → Told → Type 0
+LeavesFiles w t = (why : List ℕ) → t.told ≡ Some why → t.work.world ≡ w.world
+
 abbrev pub WhatIsToldChangedNothing : Type 0
-WhatIsToldChangedNothing = (e : Encoding) (notice : Notice) (refusals : List Bool) (w : Work)
-    (params : Option Json) (name why : List ℕ)
-    → (told_of e notice refusals w params name).told ≡ Some why
-    → (told_of e notice refusals w params name).work.world ≡ w.world
+WhatIsToldChangedNothing = (e : Encoding) (notice : Notice) (o : Oracle) (w : Work)
+    (params : Option Json) (name : List ℕ) → LeavesFiles w (told_of e notice o w params name)
+
+abbrev pub WhatIsToldOfEventsChangedNothing : Type 0
+WhatIsToldOfEventsChangedNothing = (o : Oracle) (w : Work) (may_enter no_memory : Bool)
+    (name : List ℕ) → LeavesFiles w (renewed o w may_enter name)
+    × LeavesFiles w (removed no_memory w name)
 
 -- a request leaves the files and the documents as they are
 abbrev pub RequestsChangeNothing : Type 0
-RequestsChangeNothing = (refusals : List Bool) (s : Serving) (id : Json) (method : List ℕ)
-    (params : Option Json) → (does refusals s (request id method params)).server.work ≡ s.work
+RequestsChangeNothing = (o : Oracle) (s : Serving) (id : Json) (method : List ℕ)
+    (params : Option Json) → (does o s (request id method params)).server.work ≡ s.work

@@ -1,10 +1,14 @@
+pub mod Callers
 pub mod Changed
 pub mod Columns
+pub mod Completions
 pub mod Elements
 pub mod Located
 pub mod Meanings
 pub mod Noted
+pub mod Outgoing
 pub mod References
+pub mod Renames
 pub mod Turns
 pub mod Values
 pub mod Works

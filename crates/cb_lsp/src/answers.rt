@@ -1,12 +1,28 @@
 //! The answers to questions, as replies.
-ghost use Rattle.std.specs.Prelude.{◌≡◌, ◌≤◌, ◌++◌, MatchOption, List, false, length, map, take, true};
+ghost use Rattle.std.specs.Prelude.{
+  ◌≡◌,
+  ◌≤◌,
+  ◌++◌,
+  MatchOption,
+  List,
+  [],
+  Some,
+  false,
+  length,
+  map,
+  take,
+  true,
+};
+ghost use Rattle.std.specs.List.{list_any};
 ghost use Rattle.std.specs.Option.{option_map};
 ghost use Rattle.json.specs.Json.{Json, array};
 ghost use Rattle.cb_desk.specs.World.{has_file};
 ghost use Rattle.cb_index.specs.Rows.{tags_named};
 ghost use Rattle.cb_index.specs.steps.Left.{tag_of_spot};
 ghost use Rattle.cb_scan.specs.Profiles.{facts_in};
+ghost use Rattle.cb_scan.specs.lex.Tokens.{bytes_of};
 ghost use Rattle.cb_tags.specs.Writing.{Puts};
+ghost use Rattle.cb_wire.specs.Completions.{completions_front};
 ghost use Rattle.cb_wire.specs.Messages.{id_json};
 ghost use Rattle.cb_wire.specs.Positions.{place};
 ghost use Rattle.cb_wire.specs.Texts.{frame};
@@ -15,6 +31,7 @@ ghost use Rattle.cb_wire.specs.Values.{items_of, value_text};
 ghost use Rattle.cb_wire.specs.declared.list.TheConstants.{MOST_ELEMENTS};
 ghost use Rattle.cb_lsp.specs.Answers.{
   answer_in,
+  callables_at,
   definition_at,
   highlights_of,
   hover_at,
@@ -22,20 +39,27 @@ ghost use Rattle.cb_lsp.specs.Answers.{
   list_of,
   places_of_word,
   references_of_word,
+  some_of,
   word_meaning,
   word_references,
 };
+ghost use Rattle.cb_lsp.specs.Calls.{callables, item_of};
+ghost use Rattle.cb_lsp.specs.Completions.{completing, completions_of};
 ghost use Rattle.cb_lsp.specs.Headers.{folder_of, header_at, header_files};
 ghost use Rattle.cb_lsp.specs.Hovers.{hover_of, hover_texts};
+ghost use Rattle.cb_lsp.specs.Renames.{if_renamable, is_at, is_some_tag, prepared, renamable_at};
 ghost use Rattle.cb_lsp.specs.Searches.{found_by};
 ghost use Rattle.cb_lsp.specs.Symbols.{file_place, file_symbol, session_symbol};
 ghost use Rattle.cb_lsp.specs.Words.{word_at};
+ghost use Rattle.cb_lsp.specs.steps.Completions.{names_left};
 ghost use Rattle.cb_lsp.specs.steps.Located.{client_in};
 ghost use Rattle.cb_lsp.specs.steps.Meanings.{meaning_left};
 ghost use Rattle.cb_lsp.specs.steps.References.{references_left};
 ghost use Rattle.cb_lsp.specs.declared.symbols.TheConstants.{MOST_SYMBOLS};
 
+use crate::calls::{CallItems, next_callable};
 use crate::columns::Positions;
+use crate::completion::{Completions, MOST_COMPLETIONS};
 use crate::header::{folder_of, header_at, is_in_folder, without_dots};
 use crate::highlights::Highlights;
 use crate::hover::{Hovers, MOST_HOVERS};
@@ -48,13 +72,16 @@ use crate::symbols::{
     FileDefs, FlatSymbols, HeaderFiles, MOST_SYMBOLS, OneFile, Places, SessionSymbols, TreeSymbols,
     keep_like, next_like,
 };
-use crate::word::word_at;
+use crate::word::{word_at, word_before};
 use crate::written::put_null;
 use cb_desk::{Desk, Format};
 use cb_index::TagSpot;
 use cb_scan::{Facts, Source, Span};
 use cb_tags::{Sink, WriteFault};
-use cb_wire::{Elements, Id, MOST_ELEMENTS, Part, Range, place_of_position, put_list_result};
+use cb_wire::{
+    Elements, Id, MOST_ELEMENTS, Part, Range, place_of_position, put_list_result, put_range_result,
+    put_result,
+};
 use std::io::Write;
 
 /// A file that is asked about, what scanning it gives, and what the client takes.
@@ -83,7 +110,7 @@ fn put_first<W: Write, I: Elements>(
 }
 
 /// Writes a reply whose result is a list.
-fn put_list<W: Write, I: Elements>(
+pub(crate) fn put_list<W: Write, I: Elements>(
     out: &mut Sink<W>,
     id: Id<'_>,
     elements: I,
@@ -118,6 +145,39 @@ fn put_hovers<W: Write>(
         MOST_HOVERS,
         hovers,
     )
+}
+
+/// Writes that nothing completes a word.
+fn put_no_names<W: Write>(out: &mut Sink<W>, id: Id<'_>) -> Result<(), WriteFault>
+    ensures { Puts out.old out.new result (frame (value_text (result_reply (id_json id.entry)
+        (completions_of [])))) }
+{
+    put_result(out, id, b"{\"isIncomplete\":false,\"items\":[]}")
+}
+
+/// How the list of names that complete a word begins.
+fn names_head(more: bool) -> &'static [u8]
+    ensures { result.now ≡ completions_front more }
+{
+    if more {
+        b"{\"isIncomplete\":true,\"items\":["
+    } else {
+        b"{\"isIncomplete\":false,\"items\":["
+    }
+}
+
+/// Writes names that complete a word.
+fn put_names<W: Write>(
+    out: &mut Sink<W>,
+    id: Id<'_>,
+    names: Completions<'_>,
+) -> Result<(), WriteFault>
+    ensures { Puts out.old out.new result (frame (value_text (result_reply (id_json id.entry)
+        (completions_of (names_left names.entry))))) }
+{
+    let head = names_head(names.are_more());
+    let tail = [Part::Raw(b"]}")];
+    put_list_result(out, id, head, b",", &tail, MOST_COMPLETIONS, names)
 }
 
 impl<'a> FileAsked<'a> {
@@ -373,6 +433,130 @@ impl<'a> FileAsked<'a> {
         }
     }
 
+    /// Whether exactly a word of the file is a use.
+    fn is_use(&self, word: Span) -> bool
+        ensures { result ≡ list_any (is_at word) self.now.facts.now.uses }
+    {
+        self.facts.uses().iter().any(|one| one.name.start == word.start && one.name.end == word.end)
+    }
+
+    /// Whether the name of a word of the file has a definition.
+    fn is_defined(&self, word: Span) -> bool
+        ensures { result ≡ is_some_tag (tags_named self.now.desk.now.timeline.present.profile
+            (bytes_of self.now.source.now word) self.now.desk.now.timeline.present.files) }
+    {
+        let mut definitions = self.desk.definitions(bytes_of(self.source, word));
+        match definitions.next() {
+            Some(_) => true,
+            None => false,
+        }
+    }
+
+    /// A word of the file, if it may be renamed.
+    fn if_renamable(&self, word: Span) -> Option<Span>
+        requires { self.now.facts.now
+            ≡ facts_in self.now.desk.now.timeline.present.profile self.now.source.now }
+        ensures { result ≡ if_renamable self.now.desk.now.timeline.present self.now.source.now
+            (Some word) }
+    {
+        if self.is_use(word) && self.is_defined(word) {
+            Some(word)
+        } else {
+            None
+        }
+    }
+
+    /// The word at a place that may be renamed.
+    pub(crate) fn renamable_at(&self, place: usize) -> Option<Span>
+        requires place { place ≤ length self.now.source.now }
+        requires facts { self.now.facts.now
+            ≡ facts_in self.now.desk.now.timeline.present.profile self.now.source.now }
+        ensures { result ≡ renamable_at self.now.desk.now.timeline.present self.now.source.now
+            place }
+    {
+        match word_at(self.source, place) {
+            Some(word) => self.if_renamable(word),
+            None => None,
+        }
+    }
+
+    /// Writes the range of a word of the file.
+    fn put_prepared<W: Write>(
+        &self,
+        out: &mut Sink<W>,
+        id: Id<'_>,
+        word: Option<Span>,
+    ) -> Result<(), WriteFault>
+        ensures { Puts out.old out.new result (frame (value_text (result_reply (id_json id.entry)
+            (prepared (client_in self.now.forms) self.now.source.now word)))) }
+    {
+        match word {
+            Some(word) => put_range_result(out, id, range_of(self.forms, self.source, word)),
+            None => put_null(out, id),
+        }
+    }
+
+    /// Writes the functions and macros that a word means.
+    fn put_callables<W: Write>(
+        &self,
+        out: &mut Sink<W>,
+        id: Id<'_>,
+        word: Span,
+    ) -> Result<(), WriteFault>
+        ensures { Puts out.old out.new result (frame (value_text (result_reply (id_json id.entry)
+            (some_of (map (item_of (client_in self.now.forms)
+            self.now.desk.now.timeline.present.files) (callables (word_meaning
+            self.now.desk.now.timeline.present self.now.name.now self.now.source.now
+            word))))))) }
+    {
+        let rest = self.meaning(word);
+        let mut first = rest.again();
+        match next_callable(&mut first) {
+            Some(_) => put_list(
+                out,
+                id,
+                CallItems {
+                    places: Located::new(self.forms, self.desk),
+                    rest,
+                },
+            ),
+            None => put_null(out, id),
+        }
+    }
+
+    /// Writes the functions and macros that stand at a place.
+    fn put_callables_at<W: Write>(
+        &self,
+        out: &mut Sink<W>,
+        id: Id<'_>,
+        word: Option<Span>,
+    ) -> Result<(), WriteFault>
+        ensures { Puts out.old out.new result (frame (value_text (result_reply (id_json id.entry)
+            (callables_at (client_in self.now.forms) self.now.desk.now.timeline.present
+            self.now.name.now self.now.source.now word)))) }
+    {
+        match word {
+            Some(word) => self.put_callables(out, id, word),
+            None => put_null(out, id),
+        }
+    }
+
+    /// Writes the names that complete a word.
+    fn put_completions<W: Write>(
+        &self,
+        out: &mut Sink<W>,
+        id: Id<'_>,
+        word: &'a [u8],
+    ) -> Result<(), WriteFault>
+        ensures { Puts out.old out.new result (frame (value_text (result_reply (id_json id.entry)
+            (completions_of (completing self.now.desk.now.timeline.present word.now))))) }
+    {
+        match word {
+            [] => put_no_names(out, id),
+            [_, ..] => put_names(out, id, Completions::new(self.desk, word)),
+        }
+    }
+
     /// Answers a question about the file.
     pub(crate) fn put_answer<W: Write>(
         &self,
@@ -404,6 +588,18 @@ impl<'a> FileAsked<'a> {
             FileQuestion::References(position, declarations) => {
                 let place = place_of_position(encoding, text, position);
                 self.put_references(out, id, word_at(self.source, place), declarations)
+            }
+            FileQuestion::PrepareRename(position) => {
+                let place = place_of_position(encoding, text, position);
+                self.put_prepared(out, id, self.renamable_at(place))
+            }
+            FileQuestion::Callables(position) => {
+                let place = place_of_position(encoding, text, position);
+                self.put_callables_at(out, id, word_at(self.source, place))
+            }
+            FileQuestion::Completions(position) => {
+                let place = place_of_position(encoding, text, position);
+                self.put_completions(out, id, word_before(self.source, place))
             }
         }
     }

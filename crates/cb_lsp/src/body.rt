@@ -5,6 +5,7 @@ ghost use Rattle.cb_lsp.specs.Models.{message_in};
 ghost use Rattle.cb_lsp.specs.steps.Turns.{going_on};
 
 use crate::Server;
+use crate::disk::Disk;
 use crate::written::log;
 use cb_tags::{Sink, WriteFault};
 use cb_wire::{Message, message_of, text_of, value_of};
@@ -33,7 +34,8 @@ pub(crate) fn going_on(written: Result<(), WriteFault>) -> Result<bool, WriteFau
 }
 
 impl Server {
-    ghost use Rattle.std.specs.Prelude.{Bool, List, Some};
+    ghost use Rattle.std.specs.Prelude.{Some};
+    ghost use Rattle.cb_lsp.specs.Documents.{Oracle};
     ghost use Rattle.json.specs.Json.{document};
     ghost use Rattle.json.specs.Value.{value_view};
     ghost use Rattle.cb_lsp.specs.Messages.{does};
@@ -41,27 +43,29 @@ impl Server {
     ghost use Rattle.cb_lsp.specs.Bodies.{Does, TakesBody};
 
     /// Takes a message.
-    fn message<W: Write>(
+    fn message<D: Disk, W: Write>(
         &mut self,
         alloc: Global,
+        disk: &D,
         out: &mut Sink<W>,
         message: Message<'_, '_>,
     ) -> Result<(), WriteFault>
-        ensures { (refusals : List Bool) × Does (does refusals self.old (message_in message.entry))
+        ensures { (o : Oracle) × Does (does o self.old (message_in message.entry))
             self.new out.old out.new result }
     {
         match message {
             Message::NotRequest => log(out, b"not a request"),
             Message::Reply => Ok(()),
-            Message::Notification(call) => self.notice(alloc, out, call),
+            Message::Notification(call) => self.notice(alloc, disk, out, call),
             Message::Request(id, call) => self.request(alloc, out, id, call),
         }
     }
 
     /// Takes the value of a message; whether the client ends the run by it.
-    fn value<W: Write>(
+    fn value<D: Disk, W: Write>(
         &mut self,
         alloc: Global,
+        disk: &D,
         out: &mut Sink<W>,
         value: &Value<'_>,
     ) -> Result<bool, WriteFault>
@@ -70,16 +74,17 @@ impl Server {
     {
         let message = message_of(value);
         let last = is_exit(&message);
-        match self.message(alloc, out, message) {
+        match self.message(alloc, disk, out, message) {
             Ok(()) => Ok(last),
             Err(fault) => Err(fault),
         }
     }
 
     /// Takes the text of a message; whether the client ends the run by it.
-    fn text<W: Write>(
+    fn text<D: Disk, W: Write>(
         &mut self,
         alloc: Global,
+        disk: &D,
         out: &mut Sink<W>,
         scratch: &mut Scratch,
         text: &str,
@@ -88,16 +93,17 @@ impl Server {
             out.old out.new result }
     {
         match value_of(alloc, text, scratch) {
-            Ok(Some(value)) => self.value(alloc, out, &value),
+            Ok(Some(value)) => self.value(alloc, disk, out, &value),
             Ok(None) => going_on(log(out, b"not JSON")),
             Err(_) => going_on(log(out, b"out of memory")),
         }
     }
 
     /// Takes the body of a message; whether the client ends the run by it.
-    pub(crate) fn take_body<W: Write>(
+    pub(crate) fn take_body<D: Disk, W: Write>(
         &mut self,
         alloc: Global,
+        disk: &D,
         out: &mut Sink<W>,
         scratch: &mut Scratch,
         body: &[u8],
@@ -105,7 +111,7 @@ impl Server {
         ensures { TakesBody (IsMessage body.now) self.old self.new out.old out.new result }
     {
         match text_of(alloc, body) {
-            Ok(text) => self.text(alloc, out, scratch, text.as_str()),
+            Ok(text) => self.text(alloc, disk, out, scratch, text.as_str()),
             Err(_) => going_on(log(out, b"out of memory")),
         }
     }

@@ -6,14 +6,15 @@ ghost use Rattle.cb_lsp.specs.Documents.{
   document_of,
   is_named,
   is_open,
+  kept_text,
   was_lost,
   without_document,
 };
 ghost use Rattle.cb_lsp.specs.Models.{kept_in, kept_of};
+ghost use Rattle.cb_lsp.specs.Renames.{is_current};
 ghost use Rattle.cb_lsp.specs.steps.Noted.{
   is_present,
   keeps_present,
-  kept_text,
   new_document,
   noted,
   text_again,
@@ -24,8 +25,8 @@ ghost use Rattle.cb_lsp.specs.steps.Noted.{
 use std::alloc::{AllocError, Global};
 use std::marker::Model;
 
-/// The text that a file has again when its document is closed: the one that it had when the
-/// document was opened or saved.
+/// The text that a file has again when its document is closed, where the file system has no such
+/// file: the one that it had when the document was opened or saved.
 #[derive(Debug, Drop)]
 pub(crate) enum Kept {
     /// None: the file stays as it is.
@@ -186,6 +187,13 @@ impl Documents {
             Some(place) => self.open[place].is_lost(),
             None => false,
         }
+    }
+
+    /// Whether the document of a file is open and not lost.
+    pub(crate) fn is_current(&self, name: &[u8]) -> bool
+        ensures { result ≡ is_current self.now name.now }
+    {
+        self.is_open(name) && !self.is_lost(name)
     }
 
     /// Opens the document of a file, with nothing kept, unless it is open.

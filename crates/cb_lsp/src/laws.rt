@@ -1,16 +1,19 @@
 //! What follows from the definitions alone: no code runs here.
-ghost use Rattle.std.specs.Prelude.{◌≡◌, ◌≤◌, ℕ, Bool, List, Some};
+ghost use Rattle.std.specs.Prelude.{◌≡◌, ◌≤◌, ℕ, Bool, true, List, Some};
 ghost use Rattle.std.specs.List.{AllByRecursion};
 ghost use Rattle.cb_scan.specs.declared.facts.Def.{Def};
 ghost use Rattle.cb_scan.specs.declared.lex.piece.Span.{Span};
 ghost use Rattle.cb_scan.specs.declared.profile.Profile.{Profile};
 ghost use Rattle.cb_scan.specs.Profiles.{facts_in};
+ghost use Rattle.cb_scan.specs.lex.Reserved.{is_name};
 ghost use Rattle.cb_scan.specs.lex.Tokens.{bytes_of};
 ghost use Rattle.cb_wire.specs.declared.position.Position.{Position};
 ghost use Rattle.cb_wire.specs.declared.units.Encoding.{Encoding};
 ghost use Rattle.cb_wire.specs.Positions.{place};
 ghost use Rattle.cb_desk.specs.World.{IsAscending, World};
 ghost use Rattle.cb_lsp.specs.Answers.{word_meaning, word_references};
+ghost use Rattle.cb_lsp.specs.Calls.{calls_reached};
+ghost use Rattle.cb_lsp.specs.Exact.{RenamesAreExact};
 ghost use Rattle.cb_lsp.specs.Places.{line_range, range_of, range_of_line, start_of_file};
 ghost use Rattle.cb_lsp.specs.Ranges.{IsInOrder, IsNameOf, IsNamedIn, IsUseIn, LiesInside};
 ghost use Rattle.cb_lsp.specs.Searches.{found_by};
@@ -18,11 +21,13 @@ ghost use Rattle.cb_lsp.specs.Sync.{
   DocumentsStayInSync,
   RequestsChangeNothing,
   WhatIsToldChangedNothing,
+  WhatIsToldOfEventsChangedNothing,
 };
 ghost use Rattle.cb_lsp.specs.Words.{word_at};
 
-/// After any messages for which memory was not refused, each document that is open has the text
-/// that its client has, unless its last text was refused and the client was told so.
+/// After any messages for which memory was not refused, whatever is found where files are read
+/// again, each document that is open has the text that its client has, unless its last text was
+/// refused and the client was told so.
 pub fn documents_stay_in_sync()
     ensures { DocumentsStayInSync }
 {}
@@ -31,6 +36,7 @@ pub fn documents_stay_in_sync()
 /// documents as they are.
 pub fn refusals_change_nothing()
     ensures told { WhatIsToldChangedNothing }
+    ensures events { WhatIsToldOfEventsChangedNothing }
     ensures requests { RequestsChangeNothing }
 {}
 
@@ -47,7 +53,8 @@ pub fn ranges_are_in_order()
 
 /// Where an answer has the range of a name, that name stands there: the word at a position; the name
 /// of each definition of a text, by every profile; the name of each definition that a word means or
-/// a query finds, and each use of a name that is asked for, in the text that its file has.
+/// a query finds, and each use and each call of a name that is asked for, in the text that its file
+/// has.
 pub fn ranges_are_of_names()
     ensures word { (e : Encoding) (text : List ℕ) (p : Position) (word : Span)
         → word_at text (place e text p) ≡ Some word → IsNameOf text word }
@@ -59,6 +66,16 @@ pub fn ranges_are_of_names()
         → IsAscending w.files → IsNameOf text word
         → AllByRecursion (IsUseIn w.files (bytes_of text word))
         (word_references w name text word declarations) }
+    ensures calls { (w : World) (name from : List ℕ) → IsAscending w.files
+        → is_name name ≡ true
+        → AllByRecursion (IsUseIn w.files name) (calls_reached w name from) }
     ensures found { (w : World) (query : List ℕ) → IsAscending w.files
         → AllByRecursion (IsNamedIn w.files) (found_by w query) }
+{}
+
+/// Renaming is exact: in each file, the edits that are told lead a client to the text in which the
+/// name has the new one in the place of each of its uses in the reach, and every other byte is as it
+/// was.
+pub fn renames_are_exact()
+    ensures { RenamesAreExact }
 {}

@@ -8,8 +8,12 @@
 
 mod answers;
 mod body;
+mod callers;
+mod calls;
 mod change;
 mod columns;
+mod completion;
+mod disk;
 mod documents;
 mod header;
 mod highlights;
@@ -19,11 +23,13 @@ pub mod laws;
 mod location;
 mod meaning;
 mod notice;
+mod outgoing;
 mod params;
 mod place;
 mod question;
 mod reach;
 mod references;
+mod rename;
 mod run;
 mod server;
 mod symbols;
@@ -33,6 +39,7 @@ mod word;
 mod workspace;
 mod written;
 
+pub use disk::{Disk, Found};
 pub use run::RunFault;
 pub use server::Server;
 pub use turn::Ending;

@@ -3,17 +3,20 @@ ghost use Rattle.std.specs.Prelude.{◌≡◌, ◌+◌, length};
 ghost use Rattle.cb_desk.specs.World.{text_of_file};
 ghost use Rattle.cb_index.specs.steps.Left.{fact_of_spot};
 ghost use Rattle.cb_tags.specs.TagLines.{tag_of};
+ghost use Rattle.cb_wire.specs.Calls.{call_item_tree};
 ghost use Rattle.cb_wire.specs.Locations.{location_tree};
-ghost use Rattle.cb_lsp.specs.Places.{range_of, start_of_file};
+ghost use Rattle.cb_lsp.specs.Calls.{item_at};
+ghost use Rattle.cb_lsp.specs.Places.{line_range, range_of, start_of_file};
 ghost use Rattle.cb_lsp.specs.Symbols.{file_place, name_place, place_of, place_of_use};
 ghost use Rattle.cb_lsp.specs.steps.Located.{client_in};
 
 use crate::columns::Positions;
+use crate::kind::kind_number;
 use cb_desk::Desk;
 use cb_index::FactSpot;
-use cb_scan::{Source, Span};
+use cb_scan::{Kind, Source, Span};
 use cb_tags::TagRow;
-use cb_wire::{Encoding, Location, Position, Range, Root};
+use cb_wire::{CallItem, Encoding, Location, Position, Range, Root};
 use std::marker::Model;
 
 /// What a client takes.
@@ -64,8 +67,8 @@ struct FilePositions<'a> {
     positions: Positions<'a>,
 }
 
-/// Where definitions and uses are, as a client has it. Those of one file that come one behind the other go
-/// through each line of it twice.
+/// Where definitions and uses are, as a client has it. Those of one file that come one behind the
+/// other go through each line of it twice.
 #[derive(Drop)]
 pub(crate) struct Located<'a> {
     forms: Forms<'a>,
@@ -131,7 +134,7 @@ impl<'a> Located<'a> {
     }
 
     /// The range of a name that begins at a place of a file.
-    fn range(&mut self, file: &'a [u8], name: &[u8], place: u32) -> Range
+    pub(crate) fn range(&mut self, file: &'a [u8], name: &[u8], place: u32) -> Range
         ensures range { result ≡ range_of self.old.client.encoding
             (text_of_file self.old.files file.now) place (place + length name.now) }
         ensures same { self.new ≡ self.old }
@@ -179,5 +182,52 @@ impl<'a> Located<'a> {
         ensures same { self.new ≡ self.old }
     {
         self.name_place(spot.file, spot.name, spot.place)
+    }
+
+    /// The range of the line of a name that begins at a place of a file, and that of the name.
+    fn ranges(&mut self, file: &'a [u8], name: &[u8], place: u32) -> (Range, Range)
+        ensures line { result.0 ≡ line_range self.old.client.encoding
+            (text_of_file self.old.files file.entry.now) place }
+        ensures range { result.1 ≡ range_of self.old.client.encoding
+            (text_of_file self.old.files file.entry.now) place
+            (place + length name.now) }
+        ensures same { self.new ≡ self.old }
+    {
+        let start = place as usize;
+        match self.positions_in(file) {
+            Some(found) => {
+                let mut positions = found;
+                let line = positions.line_range(place);
+                let range = positions.range(start, start + name.len());
+                self.last = Some(FilePositions { file, positions });
+                (line, range)
+            }
+            None => (start_of_file(), start_of_file()),
+        }
+    }
+
+    /// A function or macro of a name that begins at a place of a file.
+    pub(crate) fn item(
+        &mut self,
+        name: &'a [u8],
+        kind: Kind,
+        file: &'a [u8],
+        place: u32,
+    ) -> CallItem<'a>
+        ensures item { call_item_tree result ≡ item_at self.old.client self.old.files
+            name.entry.now kind file.entry.now place }
+        ensures same { self.new ≡ self.old }
+    {
+        let (line, range) = self.ranges(file, name, place);
+        CallItem {
+            name,
+            kind: kind_number(kind),
+            line,
+            location: Location {
+                root: self.forms.root,
+                name: file,
+                range,
+            },
+        }
     }
 }

@@ -11,22 +11,28 @@ ghost use Rattle.cb_lsp.specs.Params.{
   changes_in,
   declarations_in,
   document_text,
+  event_of,
   first_of,
   has_text,
   is_change,
-  is_deletion,
   is_text,
   is_true,
+  item_name,
+  item_start,
+  item_uri,
   items_in,
   member_of,
+  new_name_in,
   number_in,
   position_at,
   position_in,
+  prepares_renames,
   query_in,
   range_at,
   root_in,
   takes_trees,
   takes_utf8,
+  takes_watchers,
   text_in,
   unless_null,
   uri_in,
@@ -34,6 +40,7 @@ ghost use Rattle.cb_lsp.specs.Params.{
 ghost use Rattle.cb_lsp.specs.steps.Values.{seen};
 
 use crate::change::TextChange;
+use crate::notice::FileEvent;
 use cb_wire::{Position, Range};
 use json::Value;
 
@@ -118,6 +125,28 @@ pub(crate) fn query_of<'v, 'a>(params: Option<&'v Value<'a>>) -> Option<&'a str>
     text_in(member(params, "query"))
 }
 
+/// `item.name`
+pub(crate) fn item_name<'v, 'a>(params: Option<&'v Value<'a>>) -> Option<&'a str>
+    ensures { option_map (λ s. s.now) result ≡ item_name (seen params.entry) }
+{
+    text_in(member(member(params, "item"), "name"))
+}
+
+/// `item.uri`
+pub(crate) fn item_uri<'v, 'a>(params: Option<&'v Value<'a>>) -> Option<&'a str>
+    ensures { option_map (λ s. s.now) result ≡ item_uri (seen params.entry) }
+{
+    text_in(member(member(params, "item"), "uri"))
+}
+
+/// `item.selectionRange.start`
+pub(crate) fn item_start<'v, 'a>(params: Option<&'v Value<'a>>) -> Option<Position>
+    ensures { result ≡ item_start (seen params.entry) }
+{
+    let range = member(member(params, "item"), "selectionRange");
+    position_at(member(range, "start"))
+}
+
 /// A position: a line and a character, integers from 0 up.
 fn position_at<'v, 'a>(value: Option<&'v Value<'a>>) -> Option<Position>
     ensures { result ≡ position_at (seen value.entry) }
@@ -141,6 +170,13 @@ pub(crate) fn declarations_of<'v, 'a>(params: Option<&'v Value<'a>>) -> Option<b
     bool_in(member(member(params, "context"), "includeDeclaration"))
 }
 
+/// `newName`
+pub(crate) fn new_name_of<'v, 'a>(params: Option<&'v Value<'a>>) -> Option<&'a str>
+    ensures { option_map (λ s. s.now) result ≡ new_name_in (seen params.entry) }
+{
+    text_in(member(params, "newName"))
+}
+
 /// A range: a start and an end.
 fn range_at<'v, 'a>(value: Option<&'v Value<'a>>) -> Option<Range>
     ensures { result ≡ range_at (seen value.entry) }
@@ -157,6 +193,25 @@ pub(crate) fn takes_trees<'v, 'a>(params: Option<&'v Value<'a>>) -> bool
     let document = member(member(params, "capabilities"), "textDocument");
     let symbol = member(document, "documentSymbol");
     is_true(member(symbol, "hierarchicalDocumentSymbolSupport"))
+}
+
+/// Whether the client asks what would be renamed.
+pub(crate) fn prepares_renames<'v, 'a>(params: Option<&'v Value<'a>>) -> bool
+    ensures { result ≡ prepares_renames (seen params.entry) }
+{
+    let document = member(member(params, "capabilities"), "textDocument");
+    is_true(member(member(document, "rename"), "prepareSupport"))
+}
+
+/// Whether the client can be asked to tell of files that are written.
+pub(crate) fn takes_watchers<'v, 'a>(params: Option<&'v Value<'a>>) -> bool
+    ensures { result ≡ takes_watchers (seen params.entry) }
+{
+    let workspace = member(member(params, "capabilities"), "workspace");
+    is_true(member(
+        member(workspace, "didChangeWatchedFiles"),
+        "dynamicRegistration",
+    ))
 }
 
 /// Whether a value is this text.
@@ -269,9 +324,16 @@ pub(crate) fn changes_in<'v, 'a>(params: Option<&'v Value<'a>>) -> Option<&'v [V
     }
 }
 
-/// Whether a file event says that the file is gone.
-pub(crate) fn is_deletion(event: &Value<'_>) -> bool
-    ensures { result ≡ is_deletion (value_view event.now) }
+/// What a file event tells, if that is known.
+pub(crate) fn event_of(event: &Value<'_>) -> Option<FileEvent>
+    ensures { result ≡ event_of (value_view event.now) }
 {
-    number_in(event.get("type")) == Some(3)
+    let number = number_in(event.get("type"))?;
+    if number == 3 {
+        Some(FileEvent::Gone)
+    } else if number == 1 || number == 2 {
+        Some(FileEvent::Written)
+    } else {
+        None
+    }
 }

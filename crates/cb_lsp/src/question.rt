@@ -5,15 +5,29 @@ ghost use Rattle.cb_lsp.specs.Models.{asked_in, asked_of};
 ghost use Rattle.cb_lsp.specs.Questions.{
   asked_by,
   at_place,
+  calls_by,
+  calls_to,
   in_file,
   or_bad,
+  rename_with,
   uses_at,
   workspace_symbols,
 };
-ghost use Rattle.cb_lsp.specs.Params.{declarations_in, position_in, query_in, uri_in};
+ghost use Rattle.cb_lsp.specs.Params.{
+  declarations_in,
+  item_name,
+  item_start,
+  item_uri,
+  new_name_in,
+  position_in,
+  query_in,
+  uri_in,
+};
 ghost use Rattle.cb_lsp.specs.steps.Values.{seen};
 
-use crate::params::{declarations_of, position_of, query_of, uri_of};
+use crate::params::{
+    declarations_of, item_name, item_start, item_uri, new_name_of, position_of, query_of, uri_of,
+};
 use cb_wire::{Call, Position};
 
 /// A question about one file.
@@ -30,6 +44,12 @@ pub(crate) enum FileQuestion {
     /// The uses of the word at a position in all files of its reach, with the names of definitions
     /// or without them.
     References(Position, bool),
+    /// The range of the word at a position, if it may be renamed.
+    PrepareRename(Position),
+    /// The functions and macros that the word at a position means.
+    Callables(Position),
+    /// The names that complete the word before a position.
+    Completions(Position),
 }
 
 /// A question about the files.
@@ -39,6 +59,12 @@ pub(crate) enum Question<'a> {
     InFile(&'a str, FileQuestion),
     /// The symbols of the session that a query names.
     WorkspaceSymbols(&'a str),
+    /// How the word at a position of the file of a URI is given another name.
+    Rename(&'a str, Position, &'a str),
+    /// Who calls a name that stands in the file of a URI.
+    Incoming(&'a str, &'a str),
+    /// What is called by what has a name at a position of the file of a URI.
+    Outgoing(&'a str, &'a str, Position),
 }
 
 /// Why a request asks nothing.
@@ -102,11 +128,68 @@ fn references<'v, 'a>(call: Call<'v, 'a>) -> Option<Question<'a>>
     Some(Question::InFile(uri, FileQuestion::References(position, declarations)))
 }
 
+fn prepare_rename<'v, 'a>(call: Call<'v, 'a>) -> Option<Question<'a>>
+    ensures { option_map asked_of result ≡ at_place FileQuestion.PrepareRename
+        (uri_in (seen call.entry.params)) (position_in (seen call.entry.params)) }
+{
+    let uri = uri_of(call.params)?;
+    let position = position_of(call.params)?;
+    Some(Question::InFile(uri, FileQuestion::PrepareRename(position)))
+}
+
+fn rename<'v, 'a>(call: Call<'v, 'a>) -> Option<Question<'a>>
+    ensures { option_map asked_of result ≡ rename_with (uri_in (seen call.entry.params))
+        (position_in (seen call.entry.params)) (new_name_in (seen call.entry.params)) }
+{
+    let uri = uri_of(call.params)?;
+    let position = position_of(call.params)?;
+    let new_name = new_name_of(call.params)?;
+    Some(Question::Rename(uri, position, new_name))
+}
+
+fn callables<'v, 'a>(call: Call<'v, 'a>) -> Option<Question<'a>>
+    ensures { option_map asked_of result ≡ at_place FileQuestion.Callables
+        (uri_in (seen call.entry.params)) (position_in (seen call.entry.params)) }
+{
+    let uri = uri_of(call.params)?;
+    let position = position_of(call.params)?;
+    Some(Question::InFile(uri, FileQuestion::Callables(position)))
+}
+
+fn completions<'v, 'a>(call: Call<'v, 'a>) -> Option<Question<'a>>
+    ensures { option_map asked_of result ≡ at_place FileQuestion.Completions
+        (uri_in (seen call.entry.params)) (position_in (seen call.entry.params)) }
+{
+    let uri = uri_of(call.params)?;
+    let position = position_of(call.params)?;
+    Some(Question::InFile(uri, FileQuestion::Completions(position)))
+}
+
 fn workspace_symbols<'v, 'a>(call: Call<'v, 'a>) -> Option<Question<'a>>
     ensures { option_map asked_of result
         ≡ option_map workspace_symbols (query_in (seen call.entry.params)) }
 {
     Some(Question::WorkspaceSymbols(query_of(call.params)?))
+}
+
+fn incoming<'v, 'a>(call: Call<'v, 'a>) -> Option<Question<'a>>
+    ensures { option_map asked_of result
+        ≡ calls_to (item_name (seen call.entry.params)) (item_uri (seen call.entry.params)) }
+{
+    let name = item_name(call.params)?;
+    let uri = item_uri(call.params)?;
+    Some(Question::Incoming(name, uri))
+}
+
+fn outgoing<'v, 'a>(call: Call<'v, 'a>) -> Option<Question<'a>>
+    ensures { option_map asked_of result
+        ≡ calls_by (item_name (seen call.entry.params)) (item_uri (seen call.entry.params))
+        (item_start (seen call.entry.params)) }
+{
+    let name = item_name(call.params)?;
+    let uri = item_uri(call.params)?;
+    let position = item_start(call.params)?;
+    Some(Question::Outgoing(name, uri, position))
 }
 
 /// What a call asks.
@@ -123,8 +206,20 @@ pub(crate) fn question_of<'v, 'a>(call: Call<'v, 'a>) -> Result<Question<'a>, Un
         or_bad(highlights(call))
     } else if call.method == "textDocument/references" {
         or_bad(references(call))
+    } else if call.method == "textDocument/prepareRename" {
+        or_bad(prepare_rename(call))
+    } else if call.method == "textDocument/rename" {
+        or_bad(rename(call))
     } else if call.method == "workspace/symbol" {
         or_bad(workspace_symbols(call))
+    } else if call.method == "textDocument/prepareCallHierarchy" {
+        or_bad(callables(call))
+    } else if call.method == "callHierarchy/incomingCalls" {
+        or_bad(incoming(call))
+    } else if call.method == "textDocument/completion" {
+        or_bad(completions(call))
+    } else if call.method == "callHierarchy/outgoingCalls" {
+        or_bad(outgoing(call))
     } else {
         Err(Unasked::UnknownMethod)
     }

@@ -53,7 +53,7 @@ pub(crate) fn from_place<'a, 'p>(
     left
 }
 
-/// The uses of a name in the files that it reaches. They take no memory.
+/// The uses or the calls of a name in the files that it reaches. They take no memory.
 #[derive(Drop)]
 pub(crate) struct Reached<'a, 'p> {
     rest: Uses<'a, 'p>,

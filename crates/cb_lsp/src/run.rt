@@ -1,6 +1,7 @@
 //! Runs of a language server.
 
 use crate::Server;
+use crate::disk::Disk;
 use crate::turn::Ending;
 use cb_tags::{Feed, Sink};
 use cb_wire::Frames;
@@ -23,11 +24,13 @@ impl Server {
     ghost use Rattle.cb_tags.specs.Readers.{WhateverFollows};
     ghost use Rattle.cb_lsp.specs.Runs.{LeavesRun};
 
-    /// Reads messages and writes replies, until the input of the run ends. Memory is refused only
-    /// before the first message; after it, a refusal is told to the client.
-    pub fn serve<R: BufRead, W: Write>(
+    /// Reads messages and writes replies, until the input of the run ends. Files that are closed or
+    /// written are read again. Memory is refused only before the first message; after it, a refusal
+    /// is told to the client.
+    pub fn serve<D: Disk, R: BufRead, W: Write>(
         &mut self,
         alloc: Global,
+        disk: &D,
         feed: &mut Feed<R>,
         out: &mut Sink<W>,
     ) -> Result<Ending, RunFault>
@@ -40,7 +43,7 @@ impl Server {
         };
         let mut scratch = Scratch::new(alloc);
         'turns: for _turn in 0..u64::MAX {
-            match self.turn(alloc, &mut frames, &mut scratch, feed, out) {
+            match self.turn(alloc, disk, &mut frames, &mut scratch, feed, out) {
                 Ok(None) => {}
                 Ok(Some(ending)) => return Ok(ending),
                 Err(_) => return Err(RunFault::Write),

@@ -1,20 +1,26 @@
 //! A language server, and what a message does to it.
 ghost use Rattle.std.specs.Prelude.{◌≡◌, ◌&&◌};
-ghost use Rattle.cb_lsp.specs.Messages.{encoding_for, ends_as_c, is_opening};
+ghost use Rattle.cb_lsp.specs.Messages.{encoding_for, ends_as_c, is_opening, may_enter};
 ghost use Rattle.cb_lsp.specs.steps.Values.{seen};
 
 use crate::answers::{FileAsked, put_session_symbols};
+use crate::callers::put_incoming;
+use crate::disk::{Disk, Found};
 use crate::location::Forms;
-use crate::notice::Notice;
+use crate::notice::{FileEvent, Notice};
+use crate::outgoing::put_outgoing;
 use crate::params;
 use crate::question::{FileQuestion, Question, question_of};
+use crate::rename::Renaming;
 use crate::workspace::Workspace;
 use crate::written::{
     put_bad_name, put_failure, put_null, put_refusal, put_told, put_unasked, put_unread,
 };
 use cb_desk::{Desk, Field};
 use cb_tags::{Sink, WriteFault, is_file_name};
-use cb_wire::{Call, Encoding, ErrorCode, Id, Root, path_of_uri, put_welcome};
+use cb_wire::{
+    Call, Encoding, ErrorCode, Id, Position, Root, path_of_uri, put_watch_request, put_welcome,
+};
 use json::Value;
 use std::alloc::{AllocError, Global};
 use std::io::Write;
@@ -42,6 +48,8 @@ pub struct Server {
     tree: bool,
     version: &'static str,
     stage: Stage,
+    /// The client tells of files that are written when it is asked to.
+    watches: bool,
 }
 
 impl Model for Server {
@@ -55,6 +63,7 @@ impl Model for Server {
       rooted = s.rooted;
       version = s.version.now;
       stage = s.stage;
+      watches = s.watches;
     } };
 }
 
@@ -72,6 +81,13 @@ fn opens_as_c(notice: Notice, path: &[u8]) -> bool
     ends_as_c(path) && notice.is_opening()
 }
 
+/// Whether a file of a path that is not there yet is taken in under a name.
+fn may_enter(path: &[u8], name: &[u8]) -> bool
+    ensures { result ≡ may_enter path.now name.now }
+{
+    is_file_name(name) && !(name == path)
+}
+
 /// What the columns of a client count.
 fn encoding_for(params: Option<&Value<'_>>) -> Encoding
     ensures { result ≡ encoding_for (seen params.entry) }
@@ -84,33 +100,37 @@ fn encoding_for(params: Option<&Value<'_>>) -> Encoding
 }
 
 impl Server {
-    ghost use Rattle.std.specs.Prelude.{◌∷◌, ◌≤◌, [], Bool, List, MatchResult, Ok, Some, codes};
+    ghost use Rattle.std.specs.Prelude.{◌<◌, ◌^◌, ◌≤◌, Bool, MatchResult, Ok, Some, codes};
     ghost use Rattle.json.specs.Value.{value_view};
     ghost use Rattle.cb_tags.specs.Writing.{Puts};
     ghost use Rattle.cb_wire.specs.Messages.{id_json};
     ghost use Rattle.cb_wire.specs.Texts.{frame};
     ghost use Rattle.cb_wire.specs.Trees.{result_reply};
     ghost use Rattle.cb_wire.specs.Values.{value_text};
-    ghost use Rattle.cb_lsp.specs.Answers.{answer_named};
+    ghost use Rattle.cb_lsp.specs.Answers.{answer_named, answer_reply};
     ghost use Rattle.cb_lsp.specs.Messages.{
       asked_reply,
       fresh_server,
       happened,
+      happened_at,
       happened_in,
       initialized,
       noticed,
       noticed_at,
       noticed_by,
       noticed_of,
-      removed_at,
+      registers,
       requested,
       running,
       with_root,
     };
     ghost use Rattle.cb_lsp.specs.Models.{asked_of};
     ghost use Rattle.cb_lsp.specs.Params.{items_in, member_of, uri_in};
-    ghost use Rattle.cb_lsp.specs.Questions.{in_file};
+    ghost use Rattle.cb_lsp.specs.Questions.{in_file, incoming, outgoing, rename};
+    ghost use Rattle.cb_lsp.specs.Renames.{renamed_at};
     ghost use Rattle.cb_lsp.specs.steps.Located.{client_in};
+    ghost use Rattle.cb_lsp.specs.steps.Works.{one_change, one_event};
+    ghost use Rattle.cb_lsp.specs.Documents.{Oracle, Reading};
     ghost use Rattle.cb_lsp.specs.Bodies.{Does};
     ghost use Rattle.cb_lsp.specs.steps.Values.{seen};
 
@@ -128,6 +148,7 @@ impl Server {
             tree: false,
             version,
             stage: Stage::Fresh,
+            watches: false,
         }
     }
 
@@ -207,8 +228,10 @@ impl Server {
         }
         self.encoding = encoding_for(params);
         self.tree = params::takes_trees(params);
+        self.watches = params::takes_watchers(params);
         self.stage = Stage::Running;
-        put_welcome(out, id, self.encoding, self.version.as_bytes())
+        let prepares = params::prepares_renames(params);
+        put_welcome(out, id, self.encoding, prepares, self.version.as_bytes())
     }
 
     /// Answers a request of a client that is initialized.
@@ -240,8 +263,12 @@ impl Server {
         ensures { self.new ≡ self.old }
     {
         self.work.settle(Field::Definition);
-        if let Question::InFile(_, FileQuestion::References(_, _)) = question {
-            self.work.settle(Field::Symbol);
+        match question {
+            Question::InFile(_, FileQuestion::References(_, _)) | Question::Rename(_, _, _) => {
+                self.work.settle(Field::Symbol)
+            }
+            Question::Incoming(_, _) => self.work.settle(Field::Calling),
+            _ => {}
         }
     }
 
@@ -262,6 +289,13 @@ impl Server {
             Question::InFile(uri, question) => self.answer_at(alloc, out, id, uri, question),
             Question::WorkspaceSymbols(query) => {
                 put_session_symbols(self.forms(), self.work.desk(), out, id, query.as_bytes())
+            }
+            Question::Rename(uri, position, new_name) => {
+                self.rename_at(alloc, out, id, uri, position, new_name)
+            }
+            Question::Incoming(name, uri) => self.incoming_at(alloc, out, id, name, uri),
+            Question::Outgoing(name, uri, position) => {
+                self.outgoing_at(alloc, out, id, name, uri, position)
             }
         }
     }
@@ -314,77 +348,223 @@ impl Server {
         }
     }
 
+    /// Answers how the word at a position of the file of a URI is renamed.
+    fn rename_at<W: Write>(
+        &self,
+        alloc: Global,
+        out: &mut Sink<W>,
+        id: Id<'_>,
+        uri: &str,
+        position: Position,
+        new_name: &str,
+    ) -> Result<(), WriteFault>
+        ensures { (no_memory : Bool) × Puts out.old out.new result (frame (value_text
+            (asked_reply no_memory self.now (id_json id.entry)
+            (Ok (rename uri.now position new_name.now))))) }
+    {
+        match path_of_uri(alloc, uri.as_bytes()) {
+            Ok(Some(path)) => {
+                let name = self.root.name(path.as_slice());
+                self.rename_in(out, id, name, position, new_name.as_bytes())
+            }
+            Ok(None) => put_failure(out, id, ErrorCode::RequestFailed, b"no such definition"),
+            Err(_) => put_refusal(out, id),
+        }
+    }
+
+    /// Answers how the word at a position of the file of a name is renamed.
+    fn rename_in<W: Write>(
+        &self,
+        out: &mut Sink<W>,
+        id: Id<'_>,
+        name: &[u8],
+        position: Position,
+        new_name: &[u8],
+    ) -> Result<(), WriteFault>
+        ensures { Puts out.old out.new result (frame (value_text (answer_reply (id_json id.entry)
+            (renamed_at self.now.client self.now.work position new_name.now (Some name.now))))) }
+    {
+        match self.work.desk().scanned(name) {
+            Some((source, facts)) => {
+                let asked = FileAsked {
+                    forms: self.forms(),
+                    desk: self.work.desk(),
+                    name,
+                    source,
+                    facts,
+                };
+                let renaming = Renaming {
+                    asked,
+                    documents: self.work.documents(),
+                    new_name,
+                };
+                renaming.put(out, id, position)
+            }
+            None => put_failure(out, id, ErrorCode::RequestFailed, b"no such definition"),
+        }
+    }
+
+    /// Tells who calls a name that stands in the file of a URI.
+    fn incoming_at<W: Write>(
+        &self,
+        alloc: Global,
+        out: &mut Sink<W>,
+        id: Id<'_>,
+        name: &str,
+        uri: &str,
+    ) -> Result<(), WriteFault>
+        ensures { (no_memory : Bool) × Puts out.old out.new result (frame (value_text
+            (asked_reply no_memory self.now (id_json id.entry)
+            (Ok (incoming name.now uri.now))))) }
+    {
+        match path_of_uri(alloc, uri.as_bytes()) {
+            Ok(Some(path)) => {
+                let file = self.root.name(path.as_slice());
+                let (forms, desk) = (self.forms(), self.work.desk());
+                put_incoming(alloc, forms, desk, out, id, name.as_bytes(), file)
+            }
+            Ok(None) => put_null(out, id),
+            Err(_) => put_refusal(out, id),
+        }
+    }
+
+    /// Tells what is called by what has a name at a position of the file of a URI.
+    fn outgoing_at<W: Write>(
+        &self,
+        alloc: Global,
+        out: &mut Sink<W>,
+        id: Id<'_>,
+        name: &str,
+        uri: &str,
+        position: Position,
+    ) -> Result<(), WriteFault>
+        ensures { (no_memory : Bool) × Puts out.old out.new result (frame (value_text
+            (asked_reply no_memory self.now (id_json id.entry)
+            (Ok (outgoing name.now uri.now position))))) }
+    {
+        match path_of_uri(alloc, uri.as_bytes()) {
+            Ok(Some(path)) => {
+                let file = self.root.name(path.as_slice());
+                let (forms, desk) = (self.forms(), self.work.desk());
+                put_outgoing(alloc, forms, desk, out, id, name.as_bytes(), file, position)
+            }
+            Ok(None) => put_null(out, id),
+            Err(_) => put_refusal(out, id),
+        }
+    }
+
     /// Takes a notification; only a server that runs does something.
-    pub(crate) fn notice<W: Write>(
+    pub(crate) fn notice<D: Disk, W: Write>(
         &mut self,
         alloc: Global,
+        disk: &D,
         out: &mut Sink<W>,
         call: Call<'_, '_>,
     ) -> Result<(), WriteFault>
-        ensures { (refusals : List Bool) × Does (noticed_by self.old.stage refusals self.old
+        ensures { (o : Oracle) × Does (noticed_by self.old.stage o self.old
             call.entry.method.now (seen call.entry.params)) self.new out.old out.new result }
     {
         match self.stage {
-            Stage::Running => self.take(alloc, out, call),
-            Stage::Fresh | Stage::Down => Ok(()),
+            Stage::Running => self.take(alloc, disk, out, call),
+            Stage::Fresh => Ok(()),
+            Stage::Down => Ok(()),
         }
     }
 
     /// Takes a notification.
-    fn take<W: Write>(
+    fn take<D: Disk, W: Write>(
         &mut self,
         alloc: Global,
+        disk: &D,
         out: &mut Sink<W>,
         call: Call<'_, '_>,
     ) -> Result<(), WriteFault>
-        ensures { (refusals : List Bool) × Does (noticed refusals self.old
+        ensures { (o : Oracle) × Does (noticed o self.old
             call.entry.method.now (seen call.entry.params)) self.new out.old out.new result }
     {
         match Notice::of_method(call.method) {
-            Some(Notice::Files) => self.take_files(alloc, out, call.params),
-            Some(notice) => self.take_document(alloc, out, notice, call.params),
+            Some(Notice::Ready) => self.register(out),
+            Some(Notice::Files) => self.take_files(alloc, disk, out, call.params),
+            Some(notice) => self.take_document(alloc, disk, out, notice, call.params),
             None => Ok(()),
         }
     }
 
+    /// Asks a client that is ready to tell of files that are written, if it can.
+    fn register<W: Write>(&self, out: &mut Sink<W>) -> Result<(), WriteFault>
+        ensures { Does (registers self.now self.now.watches) self.now out.old out.new result }
+    {
+        if self.watches {
+            put_watch_request(out)
+        } else {
+            Ok(())
+        }
+    }
+
     /// Takes a notification about a document.
-    fn take_document<W: Write>(
+    fn take_document<D: Disk, W: Write>(
         &mut self,
         alloc: Global,
+        disk: &D,
         out: &mut Sink<W>,
         notice: Notice,
         params: Option<&Value<'_>>,
     ) -> Result<(), WriteFault>
-        ensures { (refusals : List Bool) × Does (noticed_of notice refusals self.old
+        ensures { (o : Oracle) × Does (noticed_of notice o self.old
             (seen params.entry) (uri_in (seen params.entry))) self.new out.old out.new result }
     {
         let Some(uri) = params::uri_of(params) else {
             return Ok(());
         };
         match path_of_uri(alloc, uri.as_bytes()) {
-            Ok(Some(path)) => self.take_path(alloc, out, notice, params, path.as_slice()),
+            Ok(Some(path)) => self.take_path(alloc, disk, out, notice, params, path.as_slice()),
             Ok(None) => Ok(()),
             Err(_) => put_unread(out, uri.as_bytes()),
         }
     }
 
+    /// One more than the most bytes of a file, so that a larger one is seen to be too large.
+    fn most_read(&self) -> u64
+        ensures { result < 2 ^ 33 }
+    {
+        self.work.desk().bounds().file_bytes() as u64 + 1
+    }
+
+    /// What is found where a document is closed, whose file is read again.
+    fn found_behind<D: Disk>(
+        &self,
+        alloc: Global,
+        disk: &D,
+        notice: Notice,
+        path: &[u8],
+        name: &[u8],
+    ) -> Found {
+        if notice.is_closing() && self.work.documents().is_open(name) {
+            disk.read(alloc, path, self.most_read())
+        } else {
+            Found::Gone
+        }
+    }
+
     /// Takes a notification about the document of a path.
-    fn take_path<W: Write>(
+    fn take_path<D: Disk, W: Write>(
         &mut self,
         alloc: Global,
+        disk: &D,
         out: &mut Sink<W>,
         notice: Notice,
         params: Option<&Value<'_>>,
         path: &[u8],
     ) -> Result<(), WriteFault>
-        ensures { (refusals : List Bool) × Does (noticed_at notice refusals self.old
+        ensures { (o : Oracle) × Does (noticed_at notice o self.old
             (seen params.entry) path.now) self.new out.old out.new result }
     {
         let name = self.root.name(path);
         if is_file_name(name) {
+            let found = self.found_behind(alloc, disk, notice, path, name);
             let told = self
                 .work
-                .take_notice(alloc, self.encoding, notice, params, name);
+                .take_notice(alloc, self.encoding, notice, params, name, found);
             return put_told(out, name, told);
         }
         if opens_as_c(notice, path) {
@@ -394,13 +574,14 @@ impl Server {
     }
 
     /// Takes file events.
-    fn take_files<W: Write>(
+    fn take_files<D: Disk, W: Write>(
         &mut self,
         alloc: Global,
+        disk: &D,
         out: &mut Sink<W>,
         params: Option<&Value<'_>>,
     ) -> Result<(), WriteFault>
-        ensures { (refusals : List Bool) × Does (happened_in refusals self.old
+        ensures { (o : Oracle) × Does (happened_in o self.old
             (items_in (member_of (codes "changes") (seen params.entry)))) self.new
             out.old out.new result }
     {
@@ -408,33 +589,72 @@ impl Server {
             return Ok(());
         };
         'events: for event in events {
-            self.take_event(alloc, out, event)?;
+            self.take_event(alloc, disk, out, event)?;
         }
         Ok(())
     }
 
     /// Takes a file event.
-    fn take_event<W: Write>(
+    fn take_event<D: Disk, W: Write>(
         &mut self,
         alloc: Global,
+        disk: &D,
         out: &mut Sink<W>,
         event: &Value<'_>,
     ) -> Result<(), WriteFault>
-        ensures { (no_memory no_removal : Bool) × Does
-            (happened (no_memory ∷ no_removal ∷ []) self.old (value_view event.now)) self.new
+        ensures { (no_path no_text : Bool) × (found : Reading) × Does (happened
+            (one_event no_path no_text found) self.old (value_view event.now)) self.new
             out.old out.new result }
     {
-        if !params::is_deletion(event) {
+        let Some(kind) = params::event_of(event) else {
             return Ok(());
-        }
+        };
         let Some(uri) = params::text_in(event.get("uri")) else {
             return Ok(());
         };
         match path_of_uri(alloc, uri.as_bytes()) {
-            Ok(Some(path)) => self.remove(alloc, out, path.as_slice()),
+            Ok(Some(path)) => self.take_event_at(alloc, disk, out, kind, path.as_slice()),
             Ok(None) => Ok(()),
             Err(_) => put_unread(out, uri.as_bytes()),
         }
+    }
+
+    /// Takes a file event about the file of a path.
+    fn take_event_at<D: Disk, W: Write>(
+        &mut self,
+        alloc: Global,
+        disk: &D,
+        out: &mut Sink<W>,
+        kind: FileEvent,
+        path: &[u8],
+    ) -> Result<(), WriteFault>
+        ensures { (no_text : Bool) × (found : Reading) × Does (happened_at kind
+            (one_change no_text found) self.old (Some path.now)) self.new out.old out.new result }
+    {
+        match kind {
+            FileEvent::Written => self.renew(alloc, disk, out, path),
+            FileEvent::Gone => self.remove(alloc, out, path),
+        }
+    }
+
+    /// Reads the file of a path again, which was written.
+    fn renew<D: Disk, W: Write>(
+        &mut self,
+        alloc: Global,
+        disk: &D,
+        out: &mut Sink<W>,
+        path: &[u8],
+    ) -> Result<(), WriteFault>
+        ensures { (no_text : Bool) × (found : Reading) × Does (happened_at FileEvent.Written
+            (one_change no_text found) self.old (Some path.now)) self.new out.old out.new result }
+    {
+        let name = self.root.name(path);
+        if !self.work.renews(name, may_enter(path, name)) {
+            return Ok(());
+        }
+        let found = disk.read(alloc, path, self.most_read());
+        let told = self.work.give_found(alloc, name, found, None);
+        put_told(out, name, told)
     }
 
     /// Takes away the file of a path.
@@ -444,8 +664,9 @@ impl Server {
         out: &mut Sink<W>,
         path: &[u8],
     ) -> Result<(), WriteFault>
-        ensures { (no_memory : Bool) × Does (removed_at no_memory self.old (Some path.now))
-            self.new out.old out.new result }
+        ensures { (no_memory : Bool) × (found : Reading) × Does (happened_at FileEvent.Gone
+            (one_change no_memory found) self.old (Some path.now)) self.new out.old out.new
+            result }
     {
         let name = self.root.name(path);
         let told = self.work.remove(alloc, name);

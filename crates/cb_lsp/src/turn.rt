@@ -5,6 +5,7 @@ ghost use Rattle.cb_lsp.specs.steps.Turns.{ending_of};
 
 use crate::Server;
 use crate::body::going_on;
+use crate::disk::Disk;
 use crate::server::Stage;
 use crate::written::log;
 use cb_tags::{Feed, Sink, WriteFault};
@@ -75,9 +76,10 @@ impl Server {
     }
 
     /// Reads a message, and takes it; the ending of the run, if it ends.
-    pub(crate) fn turn<R: BufRead, W: Write>(
+    pub(crate) fn turn<D: Disk, R: BufRead, W: Write>(
         &mut self,
         alloc: Global,
+        disk: &D,
         frames: &mut Frames,
         scratch: &mut Scratch,
         feed: &mut Feed<R>,
@@ -88,7 +90,7 @@ impl Server {
     {
         match frames.read(feed) {
             Ok(Frame::Body(body)) => {
-                let taken = self.take_body(alloc, out, scratch, body);
+                let taken = self.take_body(alloc, disk, out, scratch, body);
                 self.go_on(out, taken)
             }
             Ok(Frame::TooLarge) => {

@@ -7,6 +7,7 @@ ghost use Rattle.std.specs.Prelude.{
   true,
   List,
   [],
+  ◌∷◌,
   length,
   ◌⊎◌,
   IfErr,
@@ -21,7 +22,10 @@ ghost use Rattle.cb_lsp.specs.Documents.{
   changed,
   closed,
   document_of,
+  given,
+  given_found,
   is_open,
+  is_renewed,
   opened,
   removed,
   saved,
@@ -31,7 +35,7 @@ ghost use Rattle.cb_lsp.specs.Documents.{
   was_lost,
 };
 ghost use Rattle.cb_lsp.specs.Messages.{told_of};
-ghost use Rattle.cb_lsp.specs.Models.{kept_in};
+ghost use Rattle.cb_lsp.specs.Models.{found_in, kept_in};
 ghost use Rattle.cb_lsp.specs.Params.{changes_among};
 ghost use Rattle.cb_lsp.specs.steps.Noted.{with_noted};
 ghost use Rattle.cb_lsp.specs.steps.Values.{seen};
@@ -40,10 +44,12 @@ ghost use Rattle.cb_lsp.specs.steps.Works.{
   Reloads,
   changed_named,
   kept_before,
+  one_change,
   text_at,
 };
 
 use crate::change::text_by;
+use crate::disk::Found;
 use crate::documents::{Documents, Kept, copy_of};
 use crate::notice::Notice;
 use crate::params;
@@ -101,6 +107,13 @@ impl Workspace {
         ensures { result.now.timeline.present ≡ self.now.world }
     {
         &self.desk
+    }
+
+    /// The documents that are open.
+    pub(crate) fn documents(&self) -> &Documents
+        ensures { result.now ≡ self.now.documents }
+    {
+        &self.documents
     }
 
     /// Puts in order what questions of a field read. It changes no answer.
@@ -300,16 +313,60 @@ impl Workspace {
         }
     }
 
-    /// Closes a document, whose file has again the text that was kept; what the client is told.
-    pub(crate) fn close(&mut self, alloc: Global, name: &[u8]) -> Option<&'static str>
-        ensures { (refusals : List Bool) × (record { work = self.new; told = option_copied result }
-            ≡ closed refusals self.old name.now) }
+    /// Gives a file a text, if there is one; what the client is told.
+    fn give(&mut self, alloc: Global, name: &[u8], text: Option<Vec<u8>>) -> Option<&'static str>
+        ensures { (no_text : Bool) × (record { work = self.new; told = option_copied result }
+            ≡ given no_text self.old name.now (option_map (λ text. text.items) text)) }
     {
-        let text = self.documents.close(name)?;
-        match self.take(alloc, name, text) {
-            Ok(()) => None,
-            Err(refusal) => Some(refusal.text()),
+        match text {
+            Some(text) => match self.take(alloc, name, text) {
+                Ok(()) => None,
+                Err(refusal) => Some(refusal.text()),
+            },
+            None => None,
         }
+    }
+
+    /// Gives a file the text that was found; where there is no file another one, if there is one.
+    /// What the client is told.
+    pub(crate) fn give_found(
+        &mut self,
+        alloc: Global,
+        name: &[u8],
+        found: Found,
+        other: Option<Vec<u8>>,
+    ) -> Option<&'static str>
+        ensures { (no_text : Bool) × (record { work = self.new; told = option_copied result }
+            ≡ given_found (found_in found) no_text self.old name.now
+            (option_map (λ text. text.items) other)) }
+    {
+        match found {
+            Found::Gone => self.give(alloc, name, other),
+            Found::Unreadable => Some("cannot be read"),
+            Found::NoRoom => Some(Refusal::OutOfMemory.text()),
+            Found::Holds(text) => self.give(alloc, name, Some(text)),
+        }
+    }
+
+    /// Closes a document, whose file becomes what was found, or has again the text that was kept;
+    /// what the client is told.
+    pub(crate) fn close(&mut self, alloc: Global, name: &[u8], found: Found) -> Option<&'static str>
+        ensures { (no_text : Bool) × (record { work = self.new; told = option_copied result }
+            ≡ closed (one_change no_text (found_in found)) self.old name.now) }
+    {
+        if !self.documents.is_open(name) {
+            return None;
+        }
+        let kept = self.documents.close(name);
+        self.give_found(alloc, name, found, kept)
+    }
+
+    /// Whether a file that was written is taken in: its document is not open, and it is there
+    /// already or may enter.
+    pub(crate) fn renews(&self, name: &[u8], may_enter: bool) -> bool
+        ensures { result ≡ is_renewed self.now may_enter name.now }
+    {
+        !self.documents.is_open(name) && (self.desk.source(name).is_some() || may_enter)
     }
 
     /// Takes a file away that is gone, unless its document is open; what the client is told.
@@ -334,10 +391,12 @@ impl Workspace {
         notice: Notice,
         params: Option<&Value<'_>>,
         name: &[u8],
+        found: Found,
     ) -> Option<&'static str>
         requires { is_file_name name.now ≡ true }
         ensures { (refusals : List Bool) × (record { work = self.new; told = option_copied result }
-            ≡ told_of encoding notice refusals self.old (seen params.entry) name.now) }
+            ≡ told_of encoding notice (record { refusals = refusals; found = found_in found ∷ [] })
+            self.old (seen params.entry) name.now) }
     {
         match notice {
             Notice::Open => match params::text_of(params) {
@@ -349,7 +408,8 @@ impl Workspace {
                 self.save(name);
                 None
             }
-            Notice::Close => self.close(alloc, name),
+            Notice::Close => self.close(alloc, name, found),
+            Notice::Ready => None,
             Notice::Files => None,
         }
     }

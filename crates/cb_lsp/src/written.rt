@@ -1,5 +1,5 @@
 //! What is written besides answers.
-ghost use Rattle.std.specs.Prelude.{◌≡◌, ◌∷◌, [], codes};
+ghost use Rattle.std.specs.Prelude.{◌≡◌, ◌∷◌, [], Err, codes};
 ghost use Rattle.std.specs.Option.{option_copied};
 ghost use Rattle.json.specs.Json.{null};
 ghost use Rattle.cb_tags.specs.Writing.{Puts};
@@ -8,6 +8,8 @@ ghost use Rattle.cb_wire.specs.Texts.{frame};
 ghost use Rattle.cb_wire.specs.Trees.{error_reply, result_reply};
 ghost use Rattle.cb_wire.specs.Uris.{escaped};
 ghost use Rattle.cb_wire.specs.Values.{value_text};
+ghost use Rattle.cb_lsp.specs.Answers.{answer_reply};
+ghost use Rattle.cb_lsp.specs.Renames.{not_open};
 ghost use Rattle.cb_lsp.specs.Messages.{
   log_of,
   out_of_memory,
@@ -100,6 +102,18 @@ pub(crate) fn put_failure<W: Write>(
         (frame (value_text (error_reply (id_json id.entry) code text.now))) }
 {
     put_error(out, id, code, text, b"")
+}
+
+/// Writes that a file is not open, which would have to be edited.
+pub(crate) fn put_not_open<W: Write>(
+    out: &mut Sink<W>,
+    id: Id<'_>,
+    file: &[u8],
+) -> Result<(), WriteFault>
+    ensures { Puts out.old out.new result
+        (frame (value_text (answer_reply (id_json id.entry) (Err (not_open file.now))))) }
+{
+    put_error(out, id, ErrorCode::RequestFailed, b"not open: ", file)
 }
 
 /// Writes a text to the log of the client.

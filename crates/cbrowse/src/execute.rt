@@ -31,12 +31,12 @@ mod finish;
 mod list;
 mod needs;
 
-use crate::execute::files::{TagsFile, make_file, read_operands};
+use crate::execute::files::{Folder, TagsFile, make_file, read_operands};
 use crate::execute::finish::{Finish, bounds_of, conclude, files_of, most_line_bytes};
 use crate::execute::list::take_list;
 use crate::execute::needs::needed_of;
 use cb_desk::{Bounds, Desk, Field, Format, TagRows};
-use cb_lsp::{Ending, RunFault, Server};
+use cb_lsp::{Disk, Ending, RunFault, Server};
 use cb_session::{
     Ended, Fault, Limits, Session, prepare, put_answer, put_listing_file, put_tags_file,
 };
@@ -143,8 +143,9 @@ fn tags_of<W: Write>(session: Session, listing: bool, format: Format, out: &mut 
 }
 
 /// Serves an editor from the files of a session, and leaves their memory to the end of the process.
-fn serve_editor<R: BufRead, W: Write>(
+fn serve_editor<D: Disk, R: BufRead, W: Write>(
     alloc: Global,
+    disk: &D,
     root: Option<&str>,
     session: Session,
     feed: &mut Feed<R>,
@@ -158,7 +159,7 @@ fn serve_editor<R: BufRead, W: Write>(
         Ok(server) => server,
         Err(_) => return Err(RunFault::Memory),
     };
-    let end = server.serve(alloc, feed, out);
+    let end = server.serve(alloc, disk, feed, out);
     forget(server);
     end
 }
@@ -176,8 +177,9 @@ fn server_of(alloc: Global, root: Option<&str>, desk: Desk) -> Result<Server, Al
 
 /// Does a job over input and output, from a session in which its files are loaded. A job is the
 /// last that a process does, so the memory of the session is not given back.
-pub fn run_job<R: BufRead, W: Write>(
+pub fn run_job<D: Disk, R: BufRead, W: Write>(
     alloc: Global,
+    disk: &D,
     job: &Job,
     limits: &Limits,
     mut session: Session,
@@ -204,7 +206,7 @@ pub fn run_job<R: BufRead, W: Write>(
             ..
         } => Finish::Ran(tags_of(session, *listing, *format, out)),
         Job::Lsp { root, .. } => {
-            Finish::Served(serve_editor(alloc, root.as_deref(), session, feed, out))
+            Finish::Served(serve_editor(alloc, disk, root.as_deref(), session, feed, out))
         }
     }
 }
@@ -232,8 +234,9 @@ fn output_file(job: &Job) -> Option<&str>
 
 /// Does a job of tags into a file that is open. Where a write or the last flush fails, the file
 /// can't be written.
-fn run_job_over<I: BufRead, W: Write>(
+fn run_job_over<D: Disk, I: BufRead, W: Write>(
     alloc: Global,
+    disk: &D,
     job: &Job,
     session: Session,
     feed: &mut Feed<I>,
@@ -246,15 +249,24 @@ fn run_job_over<I: BufRead, W: Write>(
         out.old out.new result }
     ensures feed { feed.new ≡ feed.old }
 {
-    match run_job(alloc, job, &limits(bounds_of(job)), session, feed, out) {
+    match run_job(
+        alloc,
+        disk,
+        job,
+        &limits(bounds_of(job)),
+        session,
+        feed,
+        out,
+    ) {
         Finish::Ran(Ended::Fault(Fault::Write)) => Finish::Unwritable,
         end => end,
     }
 }
 
 /// Does a job of tags into a file that was just made: how it ended, and what the file was left as.
-fn run_job_into<I: BufRead, W: Write>(
+fn run_job_into<D: Disk, I: BufRead, W: Write>(
     alloc: Global,
+    disk: &D,
     job: &Job,
     session: Session,
     feed: &mut Feed<I>,
@@ -268,7 +280,7 @@ fn run_job_into<I: BufRead, W: Write>(
     ensures feed { feed.new ≡ feed.old }
 {
     let mut out = Sink::new(writer);
-    let end = run_job_over(alloc, job, session, feed, &mut out);
+    let end = run_job_over(alloc, disk, job, session, feed, &mut out);
     (end, out)
 }
 
@@ -294,17 +306,21 @@ fn work<R: Files + AllocGlobal, I: BufRead, O: Write>(
         Ok(session) => session,
         Err(ended) => return (Finish::Ran(ended), None),
     };
+    let disk = Folder { rt, folder };
     match output_file(job) {
         Some(name) => match make_file(rt, folder, name) {
             Ok(writer) => {
-                let (end, file) = run_job_into(rt.alloc(), job, session, feed, writer);
+                let (end, file) = run_job_into(rt.alloc(), &disk, job, session, feed, writer);
                 (end, Some(file))
             }
             Err(end) => (end, None),
         },
         None => {
             let limits = limits(bounds);
-            (run_job(rt.alloc(), job, &limits, session, feed, out), None)
+            (
+                run_job(rt.alloc(), &disk, job, &limits, session, feed, out),
+                None,
+            )
         }
     }
 }

@@ -5,17 +5,21 @@ use Rattle.std.specs.Borrow.{Bor}
 use Rattle.json.specs.Print.{escape}
 use Rattle.cb_desk.specs.Answer.{unindented}
 use Rattle.cb_index.specs.steps.Left.{tag_of_spot}
+use Rattle.cb_tags.specs.TagLines.{Tag}
 use Rattle.cb_wire.specs.Texts.{readable}
 use Rattle.cb_wire.specs.Values.{value_text}
+use Rattle.cb_lsp.specs.Calls.{callables, item_of}
 use Rattle.cb_lsp.specs.Clients.{Client}
 use Rattle.cb_lsp.specs.Headers.{files_named}
 use Rattle.cb_lsp.specs.Highlights.{highlight, uses_of}
 use Rattle.cb_lsp.specs.Hovers.{hover_text}
 use Rattle.cb_lsp.specs.Symbols.{file_place, file_symbol_as, place_of, place_of_use}
 use Rattle.cb_lsp.specs.Symbols.{session_symbol}
+use Rattle.cb_lsp.specs.declared.calls.CallItems.{CallItems}
 use Rattle.cb_lsp.specs.declared.highlights.Highlights.{Highlights}
 use Rattle.cb_lsp.specs.declared.hover.Hover.{Hover}
 use Rattle.cb_lsp.specs.declared.hover.Hovers.{Hovers}
+use Rattle.cb_lsp.specs.declared.meaning.Meaning.{Meaning}
 use Rattle.cb_lsp.specs.declared.references.UsePlaces.{UsePlaces}
 use Rattle.cb_lsp.specs.declared.symbols.FileDefs.{FileDefs}
 use Rattle.cb_lsp.specs.declared.symbols.FlatSymbols.{FlatSymbols}
@@ -86,3 +90,10 @@ highlights_left h =
 
 abbrev pub hovers_left : Hovers → List (List ℕ)
 hovers_left h = map (λ t. escape (hover_text t)) (meaning_left h.rest)
+
+abbrev pub callables_left : Meaning → List Tag
+callables_left m = callables (meaning_left m)
+
+abbrev pub items_left : CallItems → List (List ℕ)
+items_left i =
+    map (λ t. value_text (item_of i.places.client i.places.files t)) (callables_left i.rest)

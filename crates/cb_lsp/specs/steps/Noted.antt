@@ -2,8 +2,8 @@
 use Rattle.std.specs.Prelude.{◌++◌, Bool, true, false, List, [], ◌∷◌, ℕ, Option, None, Some}
 use Rattle.std.specs.Prelude.{if◌then◌else◌}
 use Rattle.std.specs.Option.{option_map}
-use Rattle.cb_lsp.specs.Documents.{Document, Kept, document_of, is_open, nothing, present, text}
-use Rattle.cb_lsp.specs.Documents.{with_document}
+use Rattle.cb_lsp.specs.Documents.{Document, Kept, document_of, is_open, kept_text, nothing, present}
+use Rattle.cb_lsp.specs.Documents.{text, with_document}
 
 -- the document of a file that is opened, before its text is known
 abbrev pub new_document : List ℕ → Document
@@ -22,12 +22,7 @@ abbrev pub keeps_present : Option Document → Bool
 keeps_present None = false
 keeps_present (Some d) = is_present d.kept
 
--- the text that is kept, if it is another one
-abbrev pub kept_text : Kept → Option (List ℕ)
-kept_text nothing = None
-kept_text present = None
-kept_text (text bytes) = Some bytes
-
+-- the text that the document of a file keeps, if it is another one
 abbrev pub text_again : Option Document → Option (List ℕ)
 text_again None = None
 text_again (Some d) = kept_text d.kept

@@ -1,12 +1,22 @@
 -- What the steps of a message leave of the files and the documents.
-use Rattle.std.specs.Prelude.{◌≡◌, ◌≤◌, ℕ, Bool, false, List, [], Option, None, Some}
+use Rattle.std.specs.Prelude.{◌≡◌, ◌≤◌, ◌∷◌, ℕ, Bool, false, List, [], Option, None, Some}
 use Rattle.std.specs.Prelude.{Result, Ok, Err, if◌then◌else◌}
 use Rattle.cb_desk.specs.declared.refusal.Refusal.{Refusal}
 use Rattle.cb_desk.specs.Timeline.{Timeline}
 use Rattle.cb_desk.specs.World.{File, World, text_of_file}
-use Rattle.cb_lsp.specs.Documents.{Document, Kept, Told, Work, changed_into, document_of, if_open}
-use Rattle.cb_lsp.specs.Documents.{text, text_unless, was_lost}
+use Rattle.cb_lsp.specs.Documents.{Document, Reading, Kept, Oracle, Told, Work, changed_into}
+use Rattle.cb_lsp.specs.Documents.{document_of, if_open, text, text_unless, was_lost}
 use Rattle.cb_lsp.specs.steps.Noted.{keeps_present, with_noted}
+
+-- what is decided where a file is given one text, and where a file event is taken
+abbrev pub one_change : Bool → Reading → Oracle
+one_change no_text found = record { refusals = no_text ∷ []; found = found ∷ [] }
+
+abbrev pub one_event : (no_path no_text : Bool) → Reading → Oracle
+one_event no_path no_text found = record {
+  refusals = no_path ∷ no_text ∷ [];
+  found = found ∷ [];
+}
 
 -- no past and no future, and room for one change
 pub record IsForgotten (t : Timeline) : Type 0 where

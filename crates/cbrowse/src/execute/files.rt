@@ -25,6 +25,7 @@ ghost use Rattle.cbrowse.specs.Program.{
 
 use crate::execute::finish::Finish;
 use cb_desk::Bounds;
+use cb_lsp::{Disk, Found};
 use cb_session::{Ended, Fault, Operand, Operands};
 use std::alloc::{AllocError, Global};
 use std::fs::{self, Metadata, OpenFile, OpenOptions};
@@ -72,6 +73,42 @@ pub(crate) fn read_file<R: Files + AllocGlobal>(
     let file = fs::open(rt, path)?;
     let size = file.metadata()?.len();
     read_whole(rt.alloc(), most, file, size)
+}
+
+/// The first bytes of the file of a path behind a folder's text, at most so many.
+fn read_behind<R: Files + AllocGlobal>(
+    rt: &R,
+    folder: &str,
+    most: u64,
+    path: &[u8],
+) -> io::Result<Vec<u8>>
+    requires { most < 2 ^ 33 }
+{
+    let Ok(path) = str::from_utf8(path) else {
+        return Err(io::Error::from(ErrorKind::InvalidFilename));
+    };
+    let path = path_of(rt.alloc(), folder, path)?;
+    read_file(rt, most, path.as_str())
+}
+
+/// The files of the program as its language server reads them, behind a folder's text.
+#[derive(Drop)]
+pub(crate) struct Folder<'a, R> {
+    pub(crate) rt: &'a R,
+    pub(crate) folder: &'a str,
+}
+
+impl<R: Files + AllocGlobal> Disk for Folder<'_, R> {
+    fn read(&self, _alloc: Global, path: &[u8], most: u64) -> Found {
+        match read_behind(self.rt, self.folder, most, path) {
+            Ok(bytes) => Found::Holds(bytes),
+            Err(error) => match error.kind() {
+                ErrorKind::NotFound => Found::Gone,
+                ErrorKind::OutOfMemory => Found::NoRoom,
+                _ => Found::Unreadable,
+            },
+        }
+    }
 }
 
 /// Reads one file.

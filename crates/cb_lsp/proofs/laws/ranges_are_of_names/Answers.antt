@@ -1,3 +1,4 @@
+use Rattle.cb_lsp.proofs.NamedCalls.{reached-named}
 use Rattle.cb_lsp.proofs.NamedDefs.{defs-named}
 use Rattle.cb_lsp.proofs.NamedTags.{found-named, meaning-named}
 use Rattle.cb_lsp.proofs.NamedUses.{references-named}
@@ -15,6 +16,9 @@ returns-clause-meaning c = meaning-named
 
 pub returns-clause-uses : goal.returns-clause-uses
 returns-clause-uses c = references-named
+
+pub returns-clause-calls : goal.returns-clause-calls
+returns-clause-calls c = reached-named
 
 pub returns-clause-found : goal.returns-clause-found
 returns-clause-found c = found-named

@@ -5,9 +5,11 @@ use Rattle.cb_wire.specs.Positions.{place}
 use Rattle.cb_wire.specs.Texts.{frame}
 use Rattle.cb_wire.specs.Trees.{result_reply}
 use Rattle.cb_wire.specs.Values.{value_text}
-use Rattle.cb_lsp.specs.Answers.{answer_in, definition_at, highlights_of, hover_at, list_of}
-use Rattle.cb_lsp.specs.Answers.{references_of_word}
+use Rattle.cb_lsp.specs.Answers.{answer_in, callables_at, definition_at, highlights_of, hover_at}
+use Rattle.cb_lsp.specs.Answers.{list_of, references_of_word}
+use Rattle.cb_lsp.specs.Completions.{completing, completions_of, word_before}
 use Rattle.cb_lsp.specs.Headers.{header_at}
+use Rattle.cb_lsp.specs.Renames.{prepared, renamable_at}
 use Rattle.cb_lsp.specs.Symbols.{file_symbol}
 use Rattle.cb_lsp.specs.Words.{word_at}
 use Rattle.cb_lsp.specs.steps.Located.{client_in}
@@ -101,3 +103,53 @@ returns-in-References g c =
     (frame (value_text (result_reply (id_json c.args.id)
     (references_of_word cl w f.name.now f.source.now c.in-References.declarations o)))))
     (c.word_at-in-References.ensures ∙ ap (word_at f.source.now) at) call.ensures)
+
+pub returns-in-Callables : goal.returns-in-Callables
+returns-in-Callables g c =
+    let f = c.args.self.now in
+    let w = f.desk.now.timeline.present in
+    let cl = client_in f.forms in
+    let call = c.put_callables_at in
+    let at = c.place_of_position-place-in-Callables.ensures.value
+    ∙ ap (λ t. place f.forms.encoding t c.in-Callables.position) c.bytes-text.ensures.value in
+    subst (λ q. Puts c.args.out.now call.new.out call.result
+    (frame (value_text (result_reply (id_json c.args.id)
+    (answer_in cl w f.name.now f.source.now q)))))
+    (sym c.in-Callables.is)
+    (subst (λ o. Puts c.args.out.now call.new.out call.result
+    (frame (value_text (result_reply (id_json c.args.id)
+    (callables_at cl w f.name.now f.source.now o)))))
+    (c.word_at-in-Callables.ensures ∙ ap (word_at f.source.now) at) call.ensures)
+
+pub returns-in-PrepareRename : goal.returns-in-PrepareRename
+returns-in-PrepareRename g c =
+    let f = c.args.self.now in
+    let w = f.desk.now.timeline.present in
+    let cl = client_in f.forms in
+    let call = c.put_prepared in
+    let at = c.place_of_position-place-in-PrepareRename.ensures.value
+    ∙ ap (λ t. place f.forms.encoding t c.in-PrepareRename.position) c.bytes-text.ensures.value in
+    subst (λ q. Puts c.args.out.now call.new.out call.result
+    (frame (value_text (result_reply (id_json c.args.id)
+    (answer_in cl w f.name.now f.source.now q)))))
+    (sym c.in-PrepareRename.is)
+    (subst (λ o. Puts c.args.out.now call.new.out call.result
+    (frame (value_text (result_reply (id_json c.args.id) (prepared cl f.source.now o)))))
+    (c.renamable_at.ensures ∙ ap (renamable_at w f.source.now) at) call.ensures)
+
+pub returns-in-Completions : goal.returns-in-Completions
+returns-in-Completions g c =
+    let f = c.args.self.now in
+    let w = f.desk.now.timeline.present in
+    let cl = client_in f.forms in
+    let call = c.put_completions in
+    let at = c.place_of_position-place-in-Completions.ensures.value
+    ∙ ap (λ t. place f.forms.encoding t c.in-Completions.position) c.bytes-text.ensures.value in
+    subst (λ q. Puts c.args.out.now call.new.out call.result
+    (frame (value_text (result_reply (id_json c.args.id)
+    (answer_in cl w f.name.now f.source.now q)))))
+    (sym c.in-Completions.is)
+    (subst (λ word. Puts c.args.out.now call.new.out call.result
+    (frame (value_text (result_reply (id_json c.args.id)
+    (completions_of (completing w word))))))
+    (c.word_before.ensures ∙ ap (word_before f.source.now) at) call.ensures)

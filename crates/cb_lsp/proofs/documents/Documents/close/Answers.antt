@@ -1,6 +1,6 @@
 use Rattle.std.proofs.Common.{◌∙◌, sym, ap, refl}
-use Rattle.cb_lsp.specs.Documents.{Document}
-use Rattle.cb_lsp.specs.steps.Noted.{kept_text, text_again}
+use Rattle.cb_lsp.specs.Documents.{Document, kept_text}
+use Rattle.cb_lsp.specs.steps.Noted.{text_again}
 use Rattle.cb_lsp.proofs.DocumentPlaces.{found-document, gone-at, kept-all, unfound}
 use Rattle.cb_lsp.proofs.documents.Documents.close.Goals as goal
 

@@ -2,7 +2,7 @@ use Rattle.std.proofs.Common.{◌∙◌, false, ap, sym}
 use Rattle.cb_wire.specs.Messages.{id_json}
 use Rattle.cb_lsp.specs.Messages.{Serving}
 use Rattle.cb_lsp.specs.Models.{asked_of}
-use Rattle.cb_lsp.specs.Questions.{in_file}
+use Rattle.cb_lsp.specs.Questions.{in_file, incoming, outgoing, rename}
 use Rattle.cb_lsp.proofs.Asked.{puts-asked, puts-symbols}
 use Rattle.cb_lsp.proofs.server.Server.answer.Goals as goal
 
@@ -24,4 +24,31 @@ returns-in-WorkspaceSymbols-clause-put g c = (
       (ap asked_of (sym c.in-WorkspaceSymbols.is))
       (c.desk.ensures ∙ ap (λ (s : Serving). s.work.world) c.self.view_is) c.forms.ensures
       c.as_bytes.ensures.value c.put_session_symbols.ensures,
+)
+
+pub returns-in-Incoming-clause-put : goal.returns-in-Incoming-clause-put
+returns-in-Incoming-clause-put g c = (
+  c.incoming_at.ensures.0,
+  puts-asked c.args.self.now c.settle.new.self c.incoming_at.ensures.0
+      (incoming c.in-Incoming.name.now c.in-Incoming.uri.now) (asked_of c.args.question)
+      (id_json c.args.id) _ _ c.incoming_at.result c.settle.ensures
+      (ap asked_of (sym c.in-Incoming.is)) c.incoming_at.ensures.1,
+)
+
+pub returns-in-Outgoing-clause-put : goal.returns-in-Outgoing-clause-put
+returns-in-Outgoing-clause-put g c = (
+  c.outgoing_at.ensures.0,
+  puts-asked c.args.self.now c.settle.new.self c.outgoing_at.ensures.0
+      (outgoing c.in-Outgoing.name.now c.in-Outgoing.uri.now c.in-Outgoing.position)
+      (asked_of c.args.question) (id_json c.args.id) _ _ c.outgoing_at.result c.settle.ensures
+      (ap asked_of (sym c.in-Outgoing.is)) c.outgoing_at.ensures.1,
+)
+
+pub returns-in-Rename-clause-put : goal.returns-in-Rename-clause-put
+returns-in-Rename-clause-put g c = (
+  c.rename_at.ensures.0,
+  puts-asked c.args.self.now c.settle.new.self c.rename_at.ensures.0
+      (rename c.in-Rename.uri.now c.in-Rename.position c.in-Rename.new_name.now)
+      (asked_of c.args.question) (id_json c.args.id) _ _ c.rename_at.result c.settle.ensures
+      (ap asked_of (sym c.in-Rename.is)) c.rename_at.ensures.1,
 )

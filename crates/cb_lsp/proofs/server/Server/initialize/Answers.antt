@@ -15,8 +15,10 @@ returns-in-Err g c = (
 pub returns : goal.returns
 returns g c = (
   false,
-  initialized-does c.args.self.now _ _ (seen c.args.params) (id_json c.args.id) _ _
+  initialized-does c.args.self.now _ _ (seen c.args.params) (id_json c.args.id) _ _ _ _
       c.as_bytes.result.now _ _ _ (c.self.view_is ∙ c.in-Ok.ensures)
-      c.encoding_for-self-inside.ensures c.takes_trees-self-inside.ensures c.as_bytes.ensures.value
+      c.encoding_for-self-inside.ensures c.takes_trees-self-inside.ensures
+      c.takes_watchers-self-inside.ensures
+      c.prepares_renames-prepares.ensures c.as_bytes.ensures.value
       refl c.put_welcome.ensures,
 )

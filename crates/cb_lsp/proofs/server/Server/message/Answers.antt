@@ -1,5 +1,6 @@
-use Rattle.std.proofs.Common.{sym, subst, refl, [], ◌∷◌, ap}
+use Rattle.std.proofs.Common.{sym, subst, refl, ap}
 use Rattle.cb_lsp.proofs.Answered.{does-nothing, on-ok}
+use Rattle.cb_lsp.proofs.Notices.{behind, quiet}
 use Rattle.cb_lsp.specs.Messages.{does}
 use Rattle.cb_lsp.specs.Models.{message_in}
 use Rattle.cb_lsp.specs.Bodies.{Does}
@@ -8,8 +9,8 @@ use Rattle.cb_lsp.proofs.server.Server.message.Goals as goal
 pub returns-in-NotRequest : goal.returns-in-NotRequest
 unfolding does
 returns-in-NotRequest g c = (
-  [],
-  subst (λ m. Does (does [] c.args.self.now (message_in m)) c.args.self.now c.args.out.now
+  quiet,
+  subst (λ m. Does (does quiet c.args.self.now (message_in m)) c.args.self.now c.args.out.now
       c.log.new.out c.log.result) (sym c.in-NotRequest.is) (on-ok c.log.result refl, c.log.ensures),
 )
 
@@ -25,8 +26,8 @@ returns-in-Notification g c = (
 pub returns-in-Request : goal.returns-in-Request
 unfolding does
 returns-in-Request g c = (
-  c.request.ensures.0 ∷ [],
-  subst (λ m. Does (does (c.request.ensures.0 ∷ [])
+  behind c.request.ensures.0 quiet,
+  subst (λ m. Does (does (behind c.request.ensures.0 quiet)
       c.args.self.now (message_in m))
       c.request.new.self c.args.out.now c.request.new.out c.request.result)
       (sym c.in-Request.is) c.request.ensures.1,
@@ -36,7 +37,7 @@ pub returns-in-Reply : goal.returns-in-Reply
 unfolding does
 returns-in-Reply g c =
     let s = c.args.self.now in (
-      [],
-      does-nothing (does [] s (message_in c.args.message)) s s c.args.out.now
-          (ap (λ m. does [] s (message_in m)) (sym c.in-Reply.is)) refl,
+      quiet,
+      does-nothing (does quiet s (message_in c.args.message)) s s c.args.out.now
+          (ap (λ m. does quiet s (message_in m)) (sym c.in-Reply.is)) refl,
     )

@@ -1,8 +1,11 @@
-use Rattle.std.proofs.Common.{◌≡◌, ◌∙◌, ◌+◌, Err, ap, drop, rules, subst}
+use Rattle.std.proofs.Common.{◌≡◌, ◌∙◌, ◌+◌, Err, ap, drop, refl, rules, subst}
 use Rattle.json.specs.Value.{items_view, value_view}
+use Rattle.cb_lsp.specs.Messages.{happened_in}
 use Rattle.cb_lsp.specs.Params.{items_in}
+use Rattle.cb_lsp.proofs.Answered.{does-nothing}
 use Rattle.cb_lsp.proofs.Events.{HappenedSo, in-list, so-begun, so-ends, so-fails, so-more}
 use Rattle.cb_lsp.proofs.Items.{items_view-drop, items_view-end}
+use Rattle.cb_lsp.proofs.Notices.{quiet}
 use Rattle.cb_lsp.proofs.server.Server.take_files.Goals as goal
 
 pub events-init : goal.events-init
@@ -17,7 +20,8 @@ events-preserved g c =
     so-more c.args.self.now c.events.self c.take_event.new.self c.args.out.now c.events.out
     c.take_event.new.out (items_view vs) (items_view (drop (c.events.event-index + 1) vs))
     (value_view c.event-item.result) c.take_event.ensures.0 c.take_event.ensures.1
-    c.take_event.result _ c.in_ok-take_event.was so_far c.take_event.ensures.2
+    c.take_event.ensures.2
+    c.take_event.result _ c.in_ok-take_event.was so_far c.take_event.ensures.3
 
 pub returns-in_err-take_event : goal.returns-in_err-take_event
 returns-in_err-take_event g c =
@@ -30,8 +34,9 @@ returns-in_err-take_event g c =
     (so-fails c.args.self.now c.events.self c.take_event.new.self c.args.out.now c.events.out
     c.take_event.new.out (items_view vs) (items_view (drop (c.events.event-index + 1) vs))
     (value_view c.event-item.result) c.take_event.ensures.0 c.take_event.ensures.1
+    c.take_event.ensures.2
     c.take_event.result c.from_residual.result c.in_err-take_event.field-0.0
-    c.in_err-take_event.was err so_far c.take_event.ensures.2)
+    c.in_err-take_event.was err so_far c.take_event.ensures.3)
 
 pub returns : goal.returns
 returns g c =
@@ -40,3 +45,11 @@ returns g c =
     (items_view (drop c.events.event-index vs)) _
     (c.in-Some.ensures ∙ ap items_in c.member.ensures) c.events.invariant
     (items_view-end vs c.events.event-index c.events-test.false)
+
+pub returns-in_default : goal.returns-in_default
+returns-in_default g c =
+    let none = c.in_default.ensures ∙ ap items_in c.member.ensures in (
+      quiet,
+      does-nothing _ c.args.self.now _ c.args.out.now (ap (happened_in quiet c.args.self.now) none)
+          refl,
+    )

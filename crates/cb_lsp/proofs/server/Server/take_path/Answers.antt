@@ -1,10 +1,39 @@
-use Rattle.std.proofs.Common.{[], ◌∙◌, ap, sym, refl}
+use Rattle.std.proofs.Common.{[], ◌∷◌, ◌∙◌, ap, sym, refl}
 use Rattle.cb_wire.specs.Uris.{name_below}
+use Rattle.std.specs.Option.{option_copied}
+use Rattle.cb_lsp.specs.Documents.{Oracle}
 use Rattle.cb_lsp.specs.Messages.{Serving}
+use Rattle.cb_lsp.specs.Models.{found_in}
 use Rattle.cb_lsp.specs.steps.Values.{seen}
 use Rattle.cb_lsp.proofs.Answered.{does-as, does-nothing}
-use Rattle.cb_lsp.proofs.Notices.{noticed-bad, noticed-quiet}
+use Rattle.cb_lsp.proofs.Notices.{noticed-bad, noticed-quiet, noticed-told, quiet}
 use Rattle.cb_lsp.proofs.server.Server.take_path.Goals as goal
+
+pub returns-then-is_file_name : goal.returns-then-is_file_name
+returns-then-is_file_name g c =
+    let told = c.take_notice-told in
+    let o : Oracle = record {
+      refusals = told.ensures.0;
+      found = found_in c.found_behind-found.result ∷ [];
+    } in
+    let held : Serving = record {
+      work = c.self.inside.work;
+      client = record {
+        root = c.self.inside.root;
+        encoding = c.self.inside.encoding;
+        tree = c.self.inside.tree;
+      };
+      rooted = c.self.inside.rooted;
+      version = c.self.inside.version.now;
+      stage = c.self.inside.stage;
+      watches = c.self.inside.watches;
+    } in (
+      o,
+      noticed-told c.args.notice o held c.args.self.now (seen c.args.params) c.args.path.now
+          c.name-name.result.now told.new.self (option_copied told.result) c.args.out.now
+          c.put_told.new.out c.put_told.result c.self.view_is c.name-name.ensures
+          (sym c.is_file_name.ensures ∙ c.if-is_file_name.true) told.ensures.1 c.put_told.ensures,
+    )
 
 pub returns-then-opens_as_c : goal.returns-then-opens_as_c
 returns-then-opens_as_c g c =
@@ -14,7 +43,7 @@ returns-then-opens_as_c g c =
     let noticed = noticed-bad c.args.notice c.args.self.now (seen c.args.params) path
     c.name-name.result.now named (sym c.is_file_name.ensures ∙ c.if-is_file_name.false)
     (sym c.opens_as_c.ensures ∙ c.if-opens_as_c.true) in
-    ([], does-as _ c.args.self.now _ _ _ _ _ noticed refl c.put_bad_name.ensures)
+    (quiet, does-as _ c.args.self.now _ _ _ _ _ noticed refl c.put_bad_name.ensures)
 
 pub returns : goal.returns
 returns g c =
@@ -24,4 +53,4 @@ returns g c =
     let noticed = noticed-quiet c.args.notice c.args.self.now (seen c.args.params) path
     c.name-name.result.now named (sym c.is_file_name.ensures ∙ c.if-is_file_name.false)
     (sym c.opens_as_c.ensures ∙ c.if-opens_as_c.false) in
-    ([], does-nothing _ c.args.self.now _ c.args.out.now noticed refl)
+    (quiet, does-nothing _ c.args.self.now _ c.args.out.now noticed refl)

@@ -1,4 +1,4 @@
-use Rattle.std.proofs.Common.{[], refl, sym, subst, ap, ◌∙◌, inl, Ok, Err, Some}
+use Rattle.std.proofs.Common.{refl, sym, subst, ap, ◌∙◌, inl, Ok, Err, Some}
 use Rattle.cb_tags.proofs.Follows.{Follows-so}
 use Rattle.cb_wire.specs.declared.frame.Frame.TheVariants.{Body, TooLarge, OutOfMemory, End}
 use Rattle.cb_wire.specs.Frames.{ReadsFrame, first}
@@ -6,6 +6,7 @@ use Rattle.cb_lsp.specs.Messages.{does, too_large}
 use Rattle.cb_lsp.specs.Bodies.{Takes, refused, taken}
 use Rattle.cb_lsp.specs.Endings.{LeavesTurn, ending_at}
 use Rattle.cb_lsp.specs.steps.Turns.{ending_of}
+use Rattle.cb_lsp.proofs.Notices.{quiet}
 use Rattle.cb_lsp.proofs.OneTurn.{body-next, ends-so, is-end, is-unread, large-next, refused-next}
 use Rattle.cb_lsp.proofs.OneTurn.{told, turn-left}
 use Rattle.cb_lsp.proofs.server.Server.turn.Goals as goal
@@ -36,7 +37,7 @@ returns-in-Ok-TooLarge g c =
     let between = c.log.new.out in
     let new = c.go_on-in-Ok-TooLarge.new.out in
     let result = c.go_on-in-Ok-TooLarge.result in
-    let t = taken too_large [] in
+    let t = taken too_large quiet in
     let took : Takes t s s out between c.going_on-taken.result =
     subst (Takes t s s out between) (sym c.going_on-taken.ensures)
     (told t s out between c.log.result refl refl c.log.ensures) in

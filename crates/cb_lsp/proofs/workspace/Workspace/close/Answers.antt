@@ -1,29 +1,23 @@
+use Rattle.std.proofs.Common.{false, sym, ◌∙◌}
+use Rattle.std.specs.Option.{option_copied, option_map}
 use Rattle.cb_lsp.specs.Documents.{Work}
-use Rattle.cb_lsp.proofs.Closed.{close-done, close-nothing, close-refused}
+use Rattle.cb_lsp.specs.Models.{found_in}
+use Rattle.cb_lsp.proofs.Closed.{close-given, close-unopened}
 use Rattle.cb_lsp.proofs.workspace.Workspace.close.Goals as goal
 
-pub returns-in_err-text : goal.returns-in_err-text
-returns-in_err-text c =
+pub returns-then-not-is_open : goal.returns-then-not-is_open
+returns-then-not-is_open c =
     let work : Work =
     record { world = c.self.inside.desk.timeline.present; documents = c.self.inside.documents } in
-    rw c.from_residual.ensures
-    (close-nothing work c.args.self.now c.args.name.now c.close.new.self c.self.view_is
-    c.in_err-text.ensures.documents c.in_err-text.ensures.text)
+    close-unopened false (found_in c.args.found) work c.args.self.now c.args.name.now
+    c.self.view_is (sym c.is_open.ensures ∙ c.if-not-is_open.true)
 
-pub returns-in-Ok : goal.returns-in-Ok
-returns-in-Ok c =
+pub returns : goal.returns
+returns c =
     let work : Work =
     record { world = c.self.inside.desk.timeline.present; documents = c.self.inside.documents } in
-    let done = c.in-Ok.ensures in
-    close-done done.0 work c.args.self.now c.take.new.self c.args.name.now
-    c.in_ok-text.text.items c.close.new.self c.self.view_is c.in_ok-text.ensures.documents
-    c.in_ok-text.ensures.text done.1
-
-pub returns-in-Err : goal.returns-in-Err
-returns-in-Err c =
-    let work : Work =
-    record { world = c.self.inside.desk.timeline.present; documents = c.self.inside.documents } in
-    let refused = c.in-Err.ensures in
-    close-refused refused.0 work c.args.self.now c.take.new.self c.args.name.now
-    c.in_ok-text.text.items c.text.result.now c.close.new.self c.in-Err.refusal c.self.view_is
-    c.in_ok-text.ensures.documents c.in_ok-text.ensures.text refused.1 c.text.ensures
+    close-given c.give_found.ensures.0 (found_in c.args.found) work c.args.self.now
+    c.give_found.new.self c.args.name.now c.close-kept.new.self
+    (option_map (λ text. text.items) c.close-kept.result) (option_copied c.give_found.result)
+    c.self.view_is (sym c.is_open.ensures ∙ c.if-not-is_open.false) c.close-kept.ensures.documents
+    c.close-kept.ensures.text c.give_found.ensures.1

@@ -1,0 +1,208 @@
+-- What is called, as a reply.
+use Rattle.std.proofs.Common.{◌≡◌, ◌∙◌, ◌≤◌, ◌+◌, ◌-◌, ◌++◌, ℕ, zero, suc, Bool, true, false, List, []}
+use Rattle.std.proofs.Common.{◌<◌, ◌∷◌, refl, sym, subst, ap, arith, drop, get_or, length, map, take}
+use Rattle.std.specs.Prelude.{None, Some, Result, Ok, if◌then◌else◌}
+use Rattle.std.specs.List.{flat_map, prefix_len}
+use Rattle.std.specs.Option.{option_map}
+use Rattle.std.specs.Str.{bytes_eq}
+use Rattle.std.proofs.lemmas.List.{append_assoc, drop-drop, flat_map_more, length-drop, take_more}
+use Rattle.std.proofs.lemmas.Slice.Eq.{bytes_eq-Decides}
+use Rattle.std.proofs.Math.Seq.{take-length}
+use Rattle.json.specs.Json.{Json, null}
+use Rattle.cb_desk.specs.Scanned.{ScannedText, scanned_by, scanned_named}
+use Rattle.cb_desk.specs.World.{World, has_file, text_of_file}
+use Rattle.cb_scan.specs.declared.facts.Call.{Call}
+use Rattle.cb_scan.specs.TextFacts.{TextFacts}
+use Rattle.cb_tags.specs.Writers.{Writer}
+use Rattle.cb_tags.specs.Writing.{Puts}
+use Rattle.cb_wire.specs.declared.position.Position.{Position}
+use Rattle.cb_wire.specs.Positions.{place}
+use Rattle.cb_wire.specs.Texts.{frame}
+use Rattle.cb_wire.specs.Uris.{name_below, path_of}
+use Rattle.cb_wire.specs.Values.{value_text}
+use Rattle.cb_lsp.specs.Answers.{list_of, name_of_uri, outgoing_named}
+use Rattle.cb_lsp.specs.Calls.{cut_by}
+use Rattle.cb_lsp.specs.Clients.{Client}
+use Rattle.cb_lsp.specs.Messages.{Serving, asked_reply, result_unless}
+use Rattle.cb_lsp.specs.Outgoing.{Callee, Group, by_name, callees_by, have_one_name, outgoing_calls}
+use Rattle.cb_lsp.specs.Outgoing.{told_by_name}
+use Rattle.cb_lsp.specs.Questions.{outgoing}
+use Rattle.cb_lsp.specs.declared.outgoing.CalleeGroup.{CalleeGroup}
+use Rattle.cb_lsp.specs.declared.outgoing.CalleeRow.{CalleeRow}
+use Rattle.cb_lsp.specs.steps.Outgoing.{FirstGroup, callee_in, callee_rows, group_in}
+use Rattle.cb_lsp.proofs.Asked.{facts-there}
+use Rattle.cb_lsp.proofs.CallGroups.{IsAlike, cut-front, drop-map, mapped, taken}
+
+-- two calls of one name have it in common with the same ones
+one-name : IsAlike have_one_name
+one-name c d e is = ap (λ n. bytes_eq n e.name) ((bytes_eq-Decides c.name d.name).0 is)
+
+-- the rows at the front that have one name are the first group
+pub first-group : (rows : List CalleeRow) (first : CalleeRow) (behind : List CalleeRow) (n : ℕ)
+    → rows ≡ first ∷ behind
+    → n ≡ prefix_len (λ r. have_one_name (callee_in first) (callee_in r)) behind
+    → n ≤ length behind
+    → FirstGroup (callee_rows rows) (callee_in first, callee_rows (take (n + 1) rows))
+first-group rows first behind n is counted fits =
+    let size = taken callee_in n behind fits in
+    let more : suc n ≡ n + 1 = omega arith in
+    subst (λ rs. FirstGroup (callee_rows rs)
+    (callee_in first, callee_rows (take (n + 1) rs))) (sym is)
+    (record {
+      some = subst (λ k. 1 ≤ length (callee_rows (take k (first ∷ behind)))) more
+          (omega (arith, size));
+      within = subst (λ k. length (callee_rows (take k (first ∷ behind)))
+          ≤ length (callee_rows (first ∷ behind))) more
+          (omega (arith, size, mapped callee_in behind, fits));
+      cut = cut-front have_one_name one-name callee_in first behind n counted fits;
+    })
+
+-- the groups behind the first one
+pub cut-behind-group : (rest : List CalleeRow) (g : CalleeGroup)
+    → FirstGroup (callee_rows rest) (group_in g)
+    → cut_by have_one_name (callee_rows rest)
+    ≡ group_in g ∷ cut_by have_one_name (callee_rows (drop (length g.calls.now) rest))
+cut-behind-group rest g first =
+    first.cut
+    ∙ ap (λ n. group_in g ∷ cut_by have_one_name (drop n (callee_rows rest)))
+    (mapped callee_in g.calls.now)
+    ∙ ap (λ cs. group_in g ∷ cut_by have_one_name cs)
+    (sym (drop-map callee_in (length g.calls.now) rest))
+
+-- one more group was made
+pub groups-step : (rows rest : List CalleeRow) (given : ℕ) (g : CalleeGroup)
+    (made all : List Group) → given ≤ length rows → rest ≡ drop given rows
+    → FirstGroup (callee_rows rest) (group_in g)
+    → made ++ cut_by have_one_name (callee_rows (drop given rows)) ≡ all
+    → (given + length g.calls.now ≤ length rows)
+    × ((made ++ group_in g ∷ [])
+    ++ cut_by have_one_name (callee_rows (drop (given + length g.calls.now) rows)) ≡ all)
+groups-step rows rest given g made all within is first so_far =
+    let n = length g.calls.now in
+    let size : length rest ≡ length rows - given = ap length is ∙ length-drop given rows in
+    let cut : cut_by have_one_name (callee_rows (drop given rows))
+    ≡ group_in g ∷ cut_by have_one_name (callee_rows (drop (given + n) rows)) =
+    ap (λ rs. cut_by have_one_name (callee_rows rs)) (sym is)
+    ∙ cut-behind-group rest g first
+    ∙ ap (λ rs. group_in g ∷ cut_by have_one_name (callee_rows rs))
+    (ap (drop n) is ∙ drop-drop n given rows) in (
+      omega (
+        arith,
+        within,
+        size,
+        first.within,
+        mapped callee_in g.calls.now,
+        mapped callee_in rest,
+      ),
+      append_assoc made (group_in g ∷ []) _ ∙ ap (λ gs. made ++ gs) (sym cut) ∙ so_far,
+    )
+
+-- ---- what names mean
+
+-- what one more group means
+pub called-more : {X Y : Type 0} (f : X → List Y) (gs : List X) (i : ℕ) (d : X)
+    (made more : List Y) → i < length gs → made ≡ flat_map f (take i gs)
+    → more ≡ made ++ f (get_or gs i d) → more ≡ flat_map f (take (i + 1) gs)
+called-more f gs i d made more within so_far grown =
+    grown ∙ ap (λ ms. ms ++ f (get_or gs i d)) so_far
+    ∙ flat_map_more f [] (take i gs) (get_or gs i d)
+    ∙ ap (flat_map f) (sym (take_more gs i d within))
+
+pub called-all : {X Y Z : Type 0} (f : Y → List Z) (made : X → Y) (gs : List X) (i : ℕ)
+    → length gs ≤ i → flat_map (λ g. f (made g)) (take i gs) ≡ flat_map f (map made gs)
+called-all f made [] zero past = refl
+called-all f made [] (suc i) past = refl
+called-all f made (g ∷ gs) zero past = absurd (omega (arith, past))
+called-all f made (g ∷ gs) (suc i) past =
+    ap (λ ys. f (made g) ++ ys) (called-all f made gs i (omega (arith, past)))
+
+-- a list is its first element and the others
+pub front : {A : Type 0} (xs : List A) (d : A) → 1 ≤ length xs
+    → xs ≡ get_or xs 0 d ∷ take (length xs - 1) (drop 1 xs)
+front [] d some = grind (arith, some)
+front (y ∷ ys) d some =
+    ap (λ l. y ∷ l) (sym (take-length ys)) ∙ ap (λ n. y ∷ take n ys) (omega arith)
+
+-- ---- a reply
+
+-- a file that is there, and one that is not
+pub outgoing-there : (c : Client) (w : World) (name file : List ℕ) (p : Position)
+    (t : ScannedText) → Some t ≡ scanned_named w.profile w.files file
+    → list_of (outgoing_calls c w file t.bytes name p) ≡ outgoing_named c w name p (Some file)
+outgoing-there c w name file p t found =
+    (elim (has_file w.files file) as
+    (λ b. Some t
+    ≡ option_map (scanned_by w.profile) (if b then Some (text_of_file w.files file) else None)
+    → list_of (outgoing_calls c w file t.bytes name p)
+    ≡ (if b then list_of (outgoing_calls c w file (text_of_file w.files file) name p) else null)) [
+      | true ↦ λ k.
+          let is : t ≡ scanned_by w.profile (text_of_file w.files file) = cc in
+          ap (λ (x : ScannedText). list_of (outgoing_calls c w file x.bytes name p)) is
+      | false ↦ λ k. cc
+    ]) found
+
+-- what is told of rows of calls of a file is told of its calls
+pub outgoing-told : (c : Client) (w : World) (name file : List ℕ) (p : Position) (t : ScannedText)
+    (text : List ℕ) (n : ℕ) (calls : List Call) (rows : List Callee)
+    → Some t ≡ scanned_named w.profile w.files file → text ≡ t.bytes
+    → n ≡ place c.encoding text p → calls ≡ t.facts.calls
+    → rows ≡ by_name (callees_by c.encoding t.bytes name n calls)
+    → list_of (told_by_name c w file rows) ≡ outgoing_named c w name p (Some file)
+outgoing-told c w name file p t text n calls rows found text-is n-is calls-is rows-is =
+    let at = n-is ∙ ap (λ b. place c.encoding b p) text-is in
+    let all = calls-is ∙ ap (λ (f : TextFacts). f.calls)
+    (facts-there w w w file t found refl refl) in
+    ap (λ rs. list_of (told_by_name c w file rs))
+    (rows-is ∙ (λ i. by_name (callees_by c.encoding t.bytes name (at i) (all i))))
+    ∙ outgoing-there c w name file p t found
+
+pub outgoing-missing : (c : Client) (w : World) (name file : List ℕ) (p : Position)
+    → None ≡ scanned_named w.profile w.files file → null ≡ outgoing_named c w name p (Some file)
+outgoing-missing c w name file p missing =
+    (elim (has_file w.files file) as
+    (λ b. None
+    ≡ option_map (scanned_by w.profile) (if b then Some (text_of_file w.files file) else None)
+    → null
+    ≡ (if b then list_of (outgoing_calls c w file (text_of_file w.files file) name p) else null)) [
+      | true ↦ λ k. cc
+      | false ↦ λ k. refl
+    ]) missing
+
+unless-asked : (no_memory : Bool) (s : Serving) (id : Json) (name uri : List ℕ) (p : Position)
+    → result_unless no_memory id
+    (outgoing_named s.client s.work.world name p (name_of_uri s.client uri))
+    ≡ asked_reply no_memory s id (Ok (outgoing name uri p))
+unless-asked true s id name uri p = refl
+unless-asked false s id name uri p = refl
+
+-- the file of a URI
+pub puts-outgoing : {A E : Type 0} (no_memory : Bool) (s inside : Serving) (c : Client)
+    (w : World) (name bytes uri path file : List ℕ) (p : Position) (id : Json)
+    (before after : Writer) (r : Result A E) → inside ≡ s → c ≡ inside.client
+    → w ≡ inside.work.world → bytes ≡ name → Some path ≡ path_of uri
+    → file ≡ name_below inside.client.root.path path
+    → Puts before after r
+    (frame (value_text (result_unless no_memory id (outgoing_named c w bytes p (Some file)))))
+    → Puts before after r
+    (frame (value_text (asked_reply no_memory s id (Ok (outgoing name uri p)))))
+puts-outgoing no_memory s inside c w name bytes uri path file p id before after r is c-is w-is
+    name-is found file-is put =
+    let named : Some file ≡ name_of_uri inside.client uri =
+    ap Some file-is ∙ ap (option_map (name_below inside.client.root.path)) found in
+    let same : outgoing_named c w bytes p (Some file)
+    ≡ outgoing_named s.client s.work.world name p (name_of_uri s.client uri) =
+    (λ i. outgoing_named (c-is i) (w-is i) (name-is i) p (named i))
+    ∙ ap (λ (x : Serving). outgoing_named x.client x.work.world name p (name_of_uri x.client uri))
+    is in
+    subst (λ j. Puts before after r (frame (value_text j)))
+    (ap (result_unless no_memory id) same ∙ unless-asked no_memory s id name uri p) put
+
+pub puts-outgoing-nowhere : {A E : Type 0} (s : Serving) (name uri : List ℕ) (p : Position)
+    (id : Json) (before after : Writer) (r : Result A E) → None ≡ path_of uri
+    → Puts before after r (frame (value_text (result_unless false id null)))
+    → Puts before after r
+    (frame (value_text (asked_reply false s id (Ok (outgoing name uri p)))))
+puts-outgoing-nowhere s name uri p id before after r none put =
+    subst (λ n. Puts before after r
+    (frame (value_text (result_unless false id (outgoing_named s.client s.work.world name p n)))))
+    (ap (option_map (name_below s.client.root.path)) none) put

@@ -1,0 +1,14 @@
+use Rattle.std.proofs.Common.{◌≡◌, ◌++◌, length, map}
+use Rattle.cb_lsp.specs.steps.Elements.{callables_left}
+use Rattle.cb_lsp.specs.steps.Outgoing.{called_rows, callee_rows}
+use Rattle.cb_lsp.proofs.outgoing.push_called.Given as goal
+
+abbrev pub invariant-rows : goal.invariant-rows
+invariant-rows l =
+    called_rows l.called.items
+    ++ map (λ t. (t, callee_rows l.calls)) (callables_left l.rest)
+    ≡ called_rows l.initial.called.items
+    ++ map (λ t. (t, callee_rows l.calls)) (callables_left l.initial.rest)
+
+abbrev pub decreases-rows : goal.decreases-rows
+decreases-rows l = length (callables_left l.rest)

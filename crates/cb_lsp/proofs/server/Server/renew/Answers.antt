@@ -1,0 +1,33 @@
+use Rattle.std.proofs.Common.{◌≡◌, ◌∙◌, subst, sym, true}
+use Rattle.std.specs.Option.{option_copied}
+use Rattle.cb_lsp.specs.Documents.{is_renewed}
+use Rattle.cb_lsp.specs.Messages.{Serving}
+use Rattle.cb_lsp.specs.Models.{found_in}
+use Rattle.cb_lsp.proofs.Notices.{renewed-told}
+use Rattle.cb_lsp.proofs.server.Server.renew.Goals as goal
+
+pub returns : goal.returns
+returns g c =
+    let told = c.give_found-told in
+    let name = c.name-name.result.now in
+    let held : Serving = record {
+      work = c.self.inside.work;
+      client = record {
+        root = c.self.inside.root;
+        encoding = c.self.inside.encoding;
+        tree = c.self.inside.tree;
+      };
+      rooted = c.self.inside.rooted;
+      version = c.self.inside.version.now;
+      stage = c.self.inside.stage;
+      watches = c.self.inside.watches;
+    } in
+    let renews = subst (λ b. is_renewed held.work b name ≡ true) c.may_enter.ensures
+    (sym c.renews.ensures ∙ c.if-not-renews.false) in (
+      told.ensures.0,
+      found_in c.read-found.result,
+      renewed-told told.ensures.0 (found_in c.read-found.result) held c.args.self.now
+          c.args.path.now name told.new.self (option_copied told.result) c.args.out.now
+          c.put_told.new.out c.put_told.result c.self.view_is c.name-name.ensures renews
+          told.ensures.1 c.put_told.ensures,
+    )

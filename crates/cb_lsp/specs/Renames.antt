@@ -1,0 +1,150 @@
+-- What is renamed: the uses of a name in its reach, where the editor has each of their files open.
+use Rattle.std.specs.Prelude.{ℕ, Bool, true, false, ◌&&◌, ◌++◌, ◌==◌, not, List, [], ◌∷◌}
+use Rattle.std.specs.Prelude.{codes, filter, map, length, ◌+◌, take, Option, None, Some, Result, Ok}
+use Rattle.std.specs.Prelude.{Err, if◌then◌else◌}
+use Rattle.std.specs.List.{find, list_any}
+use Rattle.std.specs.Str.{bytes_eq}
+use Rattle.json.specs.Json.{Json, null}
+use Rattle.cb_desk.specs.World.{File, World, has_file, text_of_file}
+use Rattle.cb_index.specs.Rows.{Fact, tags_named, uses_of}
+use Rattle.cb_scan.specs.declared.facts.Use.{Use}
+use Rattle.cb_scan.specs.declared.lex.piece.Span.{Span}
+use Rattle.cb_scan.specs.lex.Reserved.{is_name}
+use Rattle.cb_scan.specs.lex.Tokens.{bytes_of}
+use Rattle.cb_scan.specs.Profiles.{facts_in}
+use Rattle.cb_tags.specs.TagLines.{Tag}
+use Rattle.cb_wire.specs.declared.list.TheConstants.{MOST_ELEMENTS}
+use Rattle.cb_wire.specs.declared.position.Position.{Position}
+use Rattle.cb_wire.specs.Edits.{FileEdits, edit_of, edits_of}
+use Rattle.cb_wire.specs.Positions.{place}
+use Rattle.cb_wire.specs.Uris.{uri_of}
+use Rattle.cb_wire.specs.Values.{range_tree}
+use Rattle.cb_lsp.specs.Clients.{Client}
+use Rattle.cb_lsp.specs.Documents.{Document, Work, document_of, is_open, was_lost}
+use Rattle.cb_lsp.specs.Places.{range_of}
+use Rattle.cb_lsp.specs.References.{uses_reached}
+use Rattle.cb_lsp.specs.Words.{word_at}
+
+-- ---- the word
+
+-- a use stands exactly at a span
+abbrev pub is_at : Span → Use → Bool
+is_at s u = u.name.start == s.start && u.name.end == s.end
+
+-- a word of a file is a use, and its name has a definition
+abbrev pub is_some_tag : List Tag → Bool
+is_some_tag [] = false
+is_some_tag (t ∷ ts) = true
+
+abbrev pub may_be_renamed : World → (text : List ℕ) → Span → Bool
+may_be_renamed w text word =
+    list_any (is_at word) (facts_in w.profile text).uses
+    && is_some_tag (tags_named w.profile (bytes_of text word) w.files)
+
+abbrev pub if_renamable : World → (text : List ℕ) → Option Span → Option Span
+if_renamable w text None = None
+if_renamable w text (Some word) = if may_be_renamed w text word then Some word else None
+
+-- the word at a place that may be renamed
+abbrev pub renamable_at : World → (text : List ℕ) → (place : ℕ) → Option Span
+renamable_at w text at = if_renamable w text (word_at text at)
+
+-- its range
+abbrev pub prepared : Client → (text : List ℕ) → Option Span → Json
+prepared c text None = null
+prepared c text (Some word) = range_tree (range_of c.encoding text word.start word.end)
+
+-- ---- why it is not renamed
+
+pub data Unrenamed : Type 0 where
+  -- no such word stands there; the new name is no name; it has a use somewhere
+  no_definition : Unrenamed
+  bad_name : Unrenamed
+  used_already : Unrenamed
+  -- a file would have to be edited that is not open, or whose last text was refused
+  not_open : (file : List ℕ) → Unrenamed
+
+abbrev pub unrenamed_text : Unrenamed → List ℕ
+unrenamed_text no_definition = codes "no such definition"
+unrenamed_text bad_name = codes "bad name"
+unrenamed_text used_already = codes "name is used already"
+unrenamed_text (not_open file) = codes "not open: " ++ file
+
+-- ---- the uses that are renamed
+
+-- those of a word of a file in its reach
+abbrev pub renamed_uses : World → (name text : List ℕ) → Span → List Fact
+renamed_uses w name text word =
+    uses_reached (tags_named w.profile (bytes_of text word) w.files) name
+    (uses_of w.profile (bytes_of text word) w.files)
+
+-- a file is open, and the editor has the text that the server has
+abbrev pub is_current : List Document → List ℕ → Bool
+is_current ds file = is_open ds file && not (was_lost (document_of ds file))
+
+-- the first file of some uses for which that does not hold
+abbrev pub first_unopened : List Document → List Fact → Option (List ℕ)
+first_unopened ds us = find (λ file. not (is_current ds file)) (map (λ (u : Fact). u.file) us)
+
+-- ---- their edits
+
+-- the files of some uses, each once, in the order of their first uses
+unfoldable pub files_of : List Fact → List (List ℕ)
+files_of [] = []
+files_of (u ∷ us) = u.file ∷ filter (λ file. not (bytes_eq file u.file)) (files_of us)
+
+-- the uses in a file
+abbrev pub uses_in : (file : List ℕ) → List Fact → List Fact
+uses_in file us = filter (λ (u : Fact). bytes_eq u.file file) us
+
+-- a new name in the place of a use
+abbrev pub use_edit : Client → List File → (new : List ℕ) → Fact → Json
+use_edit c files new u =
+    edit_of (range_of c.encoding (text_of_file files u.file) u.place (u.place + length u.name)) new
+
+abbrev pub file_edits : Client → List File → (new : List ℕ) → List Fact → (file : List ℕ)
+    → FileEdits
+file_edits c files new us file = record {
+  uri = uri_of c.root file;
+  edits = map (use_edit c files new) (uses_in file us);
+}
+
+-- a new name in the place of each use, by file; of the first 2^48, which no memory holds
+abbrev pub all_edits : Client → List File → (new : List ℕ) → List Fact → Json
+all_edits c files new us =
+    let first = take MOST_ELEMENTS us in
+    edits_of (map (file_edits c files new first) (files_of first))
+
+-- ---- all of it
+
+-- where all files are open
+abbrev pub renamed_if : Client → List File → (new : List ℕ) → List Fact → Option (List ℕ)
+    → Result Json Unrenamed
+renamed_if c files new us None = Ok (all_edits c files new us)
+renamed_if c files new us (Some file) = Err (not_open file)
+
+abbrev pub renamed_all : Client → Work → (new : List ℕ) → List Fact → Result Json Unrenamed
+renamed_all c w new us = renamed_if c w.world.files new us (first_unopened w.documents us)
+
+abbrev pub is_some_use : List Fact → Bool
+is_some_use [] = false
+is_some_use (u ∷ us) = true
+
+-- a word of the file of this name and text is renamed
+abbrev pub renamed_word : Client → Work → (name text new : List ℕ) → Option Span
+    → Result Json Unrenamed
+renamed_word c w name text new None = Err no_definition
+renamed_word c w name text new (Some word) =
+    if not (is_name new) then Err bad_name
+    else (if is_some_use (uses_of w.world.profile new w.world.files) then Err used_already
+    else renamed_all c w new (renamed_uses w.world name text word))
+
+-- the word at a position of a file of this name is renamed, if there is such a file
+abbrev pub renamed_at : Client → Work → Position → (new : List ℕ) → Option (List ℕ)
+    → Result Json Unrenamed
+renamed_at c w p new None = Err no_definition
+renamed_at c w p new (Some name) =
+    let text = text_of_file w.world.files name in
+    if has_file w.world.files name
+    then renamed_word c w name text new (renamable_at w.world text (place c.encoding text p))
+    else Err no_definition

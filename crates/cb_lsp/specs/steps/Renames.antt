@@ -1,0 +1,39 @@
+-- How the uses that are renamed are told, one after another.
+use Rattle.std.specs.Prelude.{ℕ, Bool, true, not, List, [], ◌∷◌, take}
+use Rattle.std.specs.Str.{bytes_eq}
+use Rattle.cb_desk.specs.World.{File}
+use Rattle.cb_index.specs.Rows.{Fact}
+use Rattle.cb_wire.specs.Edits.{edit_text}
+use Rattle.cb_wire.specs.Uris.{uri_of}
+use Rattle.cb_lsp.specs.Clients.{Client}
+use Rattle.cb_lsp.specs.Documents.{Work}
+use Rattle.cb_lsp.specs.Renames.{use_edit}
+use Rattle.cb_lsp.specs.declared.rename.Renaming.{Renaming}
+use Rattle.cb_lsp.specs.declared.rename.UseEdits.{UseEdits}
+use Rattle.cb_lsp.specs.steps.References.{reached_left}
+
+-- a use is the last one of its file
+abbrev pub is_last_of : (file : List ℕ) → List Fact → Bool
+is_last_of file [] = true
+is_last_of file (u ∷ us) = not (bytes_eq u.file file)
+
+-- edits of uses, of which the first may be the first one of its file
+unfoldable pub texts_of_uses : Client → List File → (new : List ℕ) → (opens : Bool) → List Fact
+    → List (List ℕ)
+texts_of_uses c files new opens [] = []
+texts_of_uses c files new opens (u ∷ us) =
+    edit_text opens (is_last_of u.file us) (uri_of c.root u.file) (use_edit c files new u)
+    ∷ texts_of_uses c files new (is_last_of u.file us) us
+
+-- those that are left
+abbrev pub edits_left : UseEdits → List (List ℕ)
+edits_left e =
+    texts_of_uses e.places.client e.places.files e.new_name.now e.opens
+    (take e.most (reached_left e.rest))
+
+-- the files and documents in which a name is changed
+abbrev pub work_in : Renaming → Work
+work_in r = record {
+  world = r.asked.desk.now.timeline.present;
+  documents = r.documents.now;
+}

@@ -1,0 +1,24 @@
+//! Files that are read again.
+ghost use Rattle.std.specs.Prelude.{◌<◌, ◌^◌};
+
+use std::alloc::Global;
+
+/// What is found where a file is read again.
+#[derive(Debug, Drop)]
+pub enum Found {
+    /// No file.
+    Gone,
+    /// A file that cannot be read.
+    Unreadable,
+    /// A file for whose bytes memory is refused.
+    NoRoom,
+    /// The bytes of a file.
+    Holds(Vec<u8>),
+}
+
+/// The file system, as a server reads it.
+pub trait Disk {
+    /// The first bytes of the file of a path, at most so many.
+    fn read(&self, alloc: Global, path: &[u8], most: u64) -> Found
+        requires { most < 2 ^ 33 };
+}
