@@ -17,6 +17,15 @@ ASCII. An editor that is not there is passed over. What they have to be told was
               After a document is closed with its edit thrown away, answers are about the text that
               was saved, or else opened. So it is with a file that was never on disk
     Commands  the editor's own command goes to a definition in another file
+    Calls     the editor's own commands list references, complete a name and, in nvim, list calls.
+              Calls are walked in both directions, over files; those that are typed count
+    Rename    the editor's own command renames a function over three files that are open: their
+              buffers have the new name, and one undo in each brings the old one back. Where a file
+              is not open, the reason is told and no buffer changes
+    Branch    git checks out another branch, in which definitions moved, and goes back. Where eglot
+              watches files, they are found where they are now. nvim 0.7.2 watches none: it finds
+              them once a buffer is opened and closed, or once the notification is sent, here by
+              hand. In both, the text of a document that is open counts until it is read again
     Wide      members, enumerators and variables are found by default, and not with --standard
     Link      the tree is opened by a link to it, and each definition is there once
     Quit      no process of the server and no temporary file is left, also where emacs quits without
@@ -63,6 +72,8 @@ METHODS = {
     "marks": "textDocument/documentHighlight",
     "symbols": "textDocument/documentSymbol",
     "workspace": "workspace/symbol",
+    "calls": "textDocument/prepareCallHierarchy",
+    "names": "textDocument/completion",
 }
 
 TREE = {
@@ -110,14 +121,24 @@ int area(const struct shape *it);
 """,
 }
 NEW = {"src/new.c": "int fresh(void)\n{\n\treturn 0;\n}\n"}
+# What another branch has, without lib/list.c.
+BRANCH = {
+    "lib/grow.c": "int grow(int n)\n{\n\treturn n * 3;\n}\n",
+    "src/shape.c": "/* It is */\n/* moved. */\n" + TREE["src/shape.c"],
+    "src/shape.h": "/* So is this. */\n" + TREE["src/shape.h"],
+}
 FUNCTION, MACRO, TYPEDEF, STRUCT, ENUM = 12, 14, 5, 23, 10
 ENUMERATOR, MEMBER, VARIABLE = 22, 8, 13
+FUNCTION_NAME, MACRO_NAME, STRUCT_NAME, TYPEDEF_NAME = 3, 21, 22, 7  # in a completion
+CREATED, CHANGED, DELETED = 1, 2, 3  # file events
 ENDS = "start", "end"
 
 # Does the steps of the file `STEPS`, and writes what it was told: JSON, with the milliseconds.
 NVIM_SCRIPT = r"""
 local function read(name) return vim.fn.json_decode(table.concat(vim.fn.readfile(name), '')) end
 local given, found, client, id = read(vim.env.STEPS), {}, nil, nil
+local said = {}
+vim.notify = function(text) table.insert(said, text) end
 local function path(file) return given.root .. '/' .. file end
 local function show(file)
   local number = vim.fn.bufnr('^' .. vim.loop.fs_realpath(given.root) .. '/' .. file .. '$')
@@ -126,6 +147,27 @@ end
 local function at(step)
   show(step[2])
   vim.api.nvim_win_set_cursor(0, {step[3] + 1, step[4]})
+end
+local function request(method, params)
+  local done, result
+  client.request(method, params, function(err, answer)
+    done, result = vim.loop.hrtime(), err and {error = err} or answer
+  end, vim.api.nvim_get_current_buf())
+  vim.wait(20000, function() return done ~= nil end, 1)
+  return result, done
+end
+local function position() return vim.lsp.util.make_position_params(0, client.offset_encoding) end
+-- What a command puts into the list of nvim.
+local function listed(command)
+  vim.fn.setqflist({}, 'r')
+  command()
+  vim.wait(5000, function() return #vim.fn.getqflist() > 0 end, 5)
+  vim.cmd('cclose')
+  local lines = {}
+  for _, it in ipairs(vim.fn.getqflist()) do
+    table.insert(lines, {vim.api.nvim_buf_get_name(it.bufnr), it.lnum - 1, it.col - 1, it.text})
+  end
+  return {lines}
 end
 local does = {}
 function does.open(step)
@@ -155,23 +197,90 @@ function does.jump(step)
   local cursor = vim.api.nvim_win_get_cursor(0)
   return {{vim.fn.expand('%:p'), cursor[1] - 1, cursor[2]}}
 end
+function does.list(step)
+  at(step)
+  return listed(function() vim.lsp.buf.references() end)
+end
+function does.calls(step)
+  at(step)
+  return listed(vim.lsp.buf[step[5] .. '_calls'])
+end
+function does.walk(step)
+  local calls, items = {}, nil
+  at(step)
+  items = request('textDocument/prepareCallHierarchy', position()) or {}
+  for _ = 1, 5 do
+    local more = {}
+    for _, item in ipairs(items) do
+      for _, it in ipairs(request('callHierarchy/' .. step[5] .. 'Calls', {item = item})) do
+        table.insert(calls, {item.name, it.from or it.to, it.fromRanges})
+        table.insert(more, it.from or it.to)
+      end
+    end
+    items = more
+  end
+  return {calls}
+end
+function does.complete(step)
+  local names, timer, turns = {}, vim.loop.new_timer(), 0
+  at({'', step[2], step[3], step[4] - 1})
+  vim.bo.omnifunc = 'v:lua.vim.lsp.omnifunc'
+  timer:start(20, 20, vim.schedule_wrap(function()
+    local items = vim.fn.complete_info({'items'}).items
+    turns = turns + 1
+    if #names > 0 or #items == 0 and turns < 250 then return end
+    for _, it in ipairs(items) do table.insert(names, it.word) end
+    timer:stop()
+    vim.api.nvim_input('<C-Y><Esc>')
+  end))
+  local keys = vim.api.nvim_replace_termcodes('a<C-X><C-O>', true, true, true)
+  vim.api.nvim_feedkeys(keys, 'nx!', false)  -- it comes back once insert mode is left
+  vim.wait(200)
+  return {{names, vim.fn.getline('.')}}
+end
+function does.rename(step)
+  at(step)
+  local before = vim.b.changedtick
+  said = {}
+  vim.lsp.buf.rename(step[5])
+  vim.wait(5000, function() return vim.b.changedtick ~= before or #said > 0 end, 5)
+  vim.wait(200)
+  return {said}
+end
+function does.text(step)
+  show(step[2])
+  return {vim.api.nvim_buf_get_lines(0, 0, -1, true)}
+end
+function does.git(step)
+  local told = vim.fn.system({'git', '-C', given.root, unpack(step, 2)})
+  if vim.v.shell_error ~= 0 then error(told) end
+end
+function does.reread(step)  -- `edit!` would end the watch of a buffer, for want of an autocommand
+  vim.cmd('silent checktime ' .. vim.fn.bufnr('/' .. step[2] .. '$'))
+  vim.wait(200)
+end
+function does.tell(step)
+  local changes = {}
+  for number = 2, #step do
+    local file, kind = unpack(step[number])
+    table.insert(changes, {uri = vim.uri_from_fname(path(file)), type = kind})
+  end
+  client.notify('workspace/didChangeWatchedFiles', {changes = changes})
+end
 function does.ask(step)
   local params, times, result
   if step[3] == 'workspace/symbol' then
     params = {query = step[4]}
   else
     at({'', step[2], step[4] or 0, step[5] or 0})
-    params = vim.lsp.util.make_position_params(0, client.offset_encoding)
+    params = position()
     params.context = {includeDeclaration = false}  -- of a request for uses
     params.newName = 'renamed'
   end
   times = {}
   for _ = 1, given.again do
-    local done, began = nil, vim.loop.hrtime()
-    client.request(step[3], params, function(err, answer)
-      done, result = vim.loop.hrtime(), err and {error = err} or answer
-    end, vim.api.nvim_get_current_buf())
-    vim.wait(20000, function() return done ~= nil end, 1)
+    local began, done = vim.loop.hrtime(), nil
+    result, done = request(step[3], params)
     table.insert(times, done and (done - began) / 1e6 or 20000)
   end
   return {result == nil and vim.NIL or result, times}
@@ -218,36 +327,100 @@ EMACS_SCRIPT = r"""
   (undo-boundary))
 (defun undo-it (file) (show file) (setq last-command nil) (undo))
 (defun save (file) (show file) (save-buffer))
-(defun drop (file) (show file) (set-buffer-modified-p nil) (kill-buffer))
+(defun drop (file)  ; which may be another one on disk by now
+  (with-current-buffer (find-buffer-visiting (path file))
+    (set-buffer-modified-p nil)
+    (kill-buffer)))
 (defun jump (file line column)
   (at file line column)
   (xref-find-definitions "LSP identifier at point.")
-  (vector (vector buffer-file-name (1- (line-number-at-pos))
-                  (- (position-bytes (point)) (position-bytes (line-beginning-position))))))
+  (vector (vconcat (place-at-point))))
+(defun place-at-point ()
+  (list buffer-file-name (1- (line-number-at-pos))
+        (- (position-bytes (point)) (position-bytes (line-beginning-position)))))
+(defun list-uses (file line column)
+  (at file line column)
+  (let* ((xrefs nil)
+         (xref-show-xrefs-function (lambda (fetcher _) (setq xrefs (funcall fetcher)))))
+    (xref-find-references "LSP identifier at point.")
+    (vector (vconcat (mapcar (lambda (it)
+                               (let ((where (xref-location-marker (xref-item-location it))))
+                                 (with-current-buffer (marker-buffer where)
+                                   (save-excursion (goto-char where)
+                                                   (vconcat (place-at-point) [""])))))
+                             xrefs)))))
+(defun asked (method words) (jsonrpc-request (eglot-current-server) method words))
+(defun walk (file line column way)
+  (at file line column)
+  (let ((items (asked :textDocument/prepareCallHierarchy (eglot--TextDocumentPositionParams)))
+        (method (intern (format ":callHierarchy/%sCalls" way)))
+        calls more)
+    (dotimes (_ 5)
+      (setq more nil)
+      (mapc (lambda (item)
+              (mapc (lambda (it)
+                      (let ((other (or (plist-get it :from) (plist-get it :to))))
+                        (push (vector (plist-get item :name) other (plist-get it :fromRanges))
+                              calls)
+                        (push other more)))
+                    (asked method (list :item item))))
+            items)
+      (setq items (nreverse more)))
+    (vector (vconcat (nreverse calls)))))
+(defun complete (file line column)
+  (at file line column)
+  (let* ((told (eglot-completion-at-point))
+         (typed (buffer-substring-no-properties (car told) (point)))
+         (names (mapcar #'substring-no-properties (all-completions typed (nth 2 told)))))
+    (completion-at-point)
+    (vector (vector (vconcat names) (buffer-substring-no-properties
+                                     (line-beginning-position) (line-end-position))))))
+(defun rename (file line column name)
+  (at file line column)
+  (condition-case why (progn (eglot-rename name) [[]])
+    (jsonrpc-error (vector (vector (alist-get 'jsonrpc-error-message (cddr why)))))))
+(defun text (file)
+  (show file)
+  (vector (vconcat (butlast (split-string (buffer-substring-no-properties 1 (point-max)) "\n")))))
+(defun git (&rest words)
+  (with-temp-buffer
+    (unless (zerop (apply #'call-process "git" nil t nil "-C" (of 'root) words))
+      (error (buffer-string)))))
+(defun reread (file)
+  (with-current-buffer (find-buffer-visiting (path file)) (revert-buffer t t)))
 (defun ask (file method &optional line column)
   (let (result times)
     (if (stringp line) (show file) (at file (or line 0) (or column 0)))
     (dotimes (_ (of 'again))
       (let ((began (float-time)))
-        (setq result (jsonrpc-request
-                      (eglot-current-server) (intern (concat ":" method))
-                      (if (stringp line) (list :query line)
-                        (append (eglot--TextDocumentPositionParams)  ; the context of uses
-                                '(:context (:includeDeclaration :json-false)
-                                  :newName "renamed")))))
+        (setq result (condition-case why
+                         (asked (intern (concat ":" method))
+                                (if (stringp line) (list :query line)
+                                  (append (eglot--TextDocumentPositionParams)
+                                          '(:context (:includeDeclaration :json-false)  ; of uses
+                                            :newName "renamed"))))
+                       (jsonrpc-error
+                        (list :error (list :message (alist-get 'jsonrpc-error-message
+                                                               (cddr why)))))))
         (push (* 1000 (- (float-time) began)) times)))
     (vector result (vconcat times))))
 (defun step-done (step)
-  (let ((does (intern (if (equal (car step) "undo") "undo-it" (car step)))))
+  (let ((does (pcase (car step) ("undo" #'undo-it) ("list" #'list-uses) (it (intern it)))))
     (condition-case why
-        (let ((answer (apply does (cdr step)))) (if (vectorp answer) answer [nil]))
+        (let ((answer (apply does (cdr step))))
+          (undo-auto--boundaries 'command)  ; in each buffer that changed, as after a command
+          (if (vectorp answer) answer [nil]))
       (error (vector (format "failed: %S" why))))))
 (defvar steps (of 'steps))
 (defvar found nil)
 (defun next-step ()
   (let ((step (pop steps)))
     (push (step-done step) found)
-    (run-with-timer (if (member (car step) '("type" "undo")) 0.7 0.01) nil
+    (run-with-timer (pcase (car step)
+                      ((or "type" "undo" "complete" "rename") 0.7)
+                      ("git" 2)  ; what it watches is told while it waits, too
+                      (_ 0.01))
+                    nil
                     (if steps #'next-step #'all-done))))
 (defun all-done ()
   (with-temp-file (getenv "FOUND")
@@ -300,6 +473,16 @@ class Plan:
     def jump(self, file: str, line: int, column: int, expected: list) -> None:
         self.steps.append(["jump", file, line, column])
         self.expected.append((f"the command at {file}:{line}:{column}", expected))
+
+    def look(self, what: str, *words: object, is_now: object) -> None:
+        """A step that has an answer: what an own command of the editor does, calls, a buffer."""
+        self.steps.append([what, *words])
+        self.expected.append((f"{what} {':'.join(map(str, words))}", is_now))
+
+    def texts(self, texts: dict[str, str]) -> None:
+        """What the buffers hold."""
+        for file, text in texts.items():
+            self.look("text", file, is_now=text.splitlines())
 
     def ask(self, what: str, file: str, *words: object, is_now: object) -> None:
         """A question about a place, by its line and its column in bytes, a file, or a name."""
@@ -416,6 +599,134 @@ def edits(plan: Plan) -> None:
     plan.ask("definition", main, 11, 29, is_now=[(shape, 10, 4, 8)])
 
 
+def calls(plan: Plan, editor: str) -> None:
+    """References, calls and completions, by the commands that the editor has for them."""
+    main, shape, header, grow = "src/main.c", "src/shape.c", "src/shape.h", "lib/list.c"
+    plan.do("open", main)
+    plan.do("open", shape)
+    uses = [("lib/deep/list.h", 1, 4), (grow, 1, 4), (main, 11, 40)]
+    plan.look("list", main, 11, 40, is_now=uses)
+    plan.look("list", main, 11, 22, is_now=[(main, 4, 11), (main, 11, 22)])
+    plan.look("list", main, 11, 29, is_now=[(main, 11, 29), (shape, 5, 4), (header, 7, 4)])
+
+    area = [("area", FUNCTION, shape, 5, 4)]
+    plan.ask("calls", main, 11, 29, is_now=area)
+    plan.ask("calls", main, 11, 15, is_now=None)  # return
+    plan.ask("calls", shape, 3, 12, is_now=None)  # a member
+    in_main = ("area", "main", main, 9, 4, [(11, 26, 30)])
+    in_area = ("helper", "area", shape, 5, 4, [(7, 8, 14)])
+    plan.look("walk", shape, 7, 8, "incoming", is_now=[in_area, in_main])
+    plan.look("walk", main, 11, 22, "incoming", is_now=[("helper", *in_main[1:5], [(11, 19, 25)])])
+    out = [
+        ("main", "helper", main, 4, 11, [(11, 19, 25)]),
+        ("main", "area", shape, 5, 4, [(11, 26, 30)]),
+        ("main", "grow", grow, 1, 4, [(11, 37, 41)]),
+        ("area", "helper", shape, 1, 11, [(7, 8, 14)]),
+    ]
+    plan.look("walk", main, 9, 4, "outgoing", is_now=out)
+    plan.look("walk", shape, 7, 8, "outgoing", is_now=[])
+    if editor == "nvim":
+        # 0.7.2 takes a column for one in bytes, and the file of what is called for that of a call.
+        plan.look("calls", main, 11, 29, "incoming", is_now=[(main, 11, 26, "main")])
+        there = [(main, 11, 19, "helper"), (shape, 11, 26, "area"), (grow, 11, 37, "grow")]
+        plan.look("calls", main, 9, 4, "outgoing", is_now=sorted(there))
+    plan.do("type", shape, 9, ["int twice(void)", "{", "\treturn area(0) + area(0);", "}"])
+    in_twice = ("area", "twice", shape, 9, 4, [(11, 8, 12), (11, 18, 22)])
+    plan.look("walk", main, 11, 29, "incoming", is_now=[in_main, in_twice])
+    of_twice = ("twice", "area", shape, 5, 4, in_twice[5])
+    plan.look("walk", shape, 9, 4, "outgoing", is_now=[of_twice, out[3]])
+    plan.do("undo", shape)
+    plan.look("walk", main, 11, 29, "incoming", is_now=[in_main])
+
+    shapes = [("shape", STRUCT_NAME), ("shape_t", TYPEDEF_NAME)]
+    macros = [("SHAPE_H", MACRO_NAME), ("SIDES", MACRO_NAME)]
+    plan.ask("names", main, 11, 25, is_now=(False, [("helper", FUNCTION_NAME)]))  # he|lper
+    plan.ask("names", main, 6, 13, is_now=(False, macros))  # S|IDES
+    plan.ask("names", shape, 2, 0, is_now=(False, []))
+    plan.ask("names", shape, 1, 34, is_now=(False, shapes))  # sha|pe
+    plan.do("type", main, 6, ["\tgro", "\tint brandish = sha"])
+    plan.look("complete", main, 6, 4, is_now=(["grow"], "\tgrow"))
+    plan.look("complete", main, 7, 19, is_now=(["shape", "shape_t"], "\tint brandish = shape"))
+    plan.ask("definition", main, 6, 4, is_now=[(grow, 1, 4, 8)])
+    plan.ask("definition", main, 7, 20, is_now=[(header, 3, 7, 12)])
+    plan.do("type", shape, 0, ["int grovel(void) { return 0; }"])
+    plan.do("type", main, 6, ["\tgro"])
+    plan.look("complete", main, 6, 4, is_now=lambda told: told[0] == ["grovel", "grow"])
+
+
+def renames(plan: Plan) -> None:
+    """A rename over three files, and back."""
+    main, shape, header = files = "src/main.c", "src/shape.c", "src/shape.h"
+    old = {file: TREE[file] for file in files}
+    new = {file: re.sub(r"\barea\b", "surface", TREE[file]) for file in files}
+    once = {**old, main: TREE[main].replace("helper", "renamed")}
+    place = main, 11, 29
+    plan.do("open", main)
+    plan.do("open", shape)
+    plan.ask("rename", *place, is_now=f"not open: {header}")
+    plan.look("rename", *place, "surface", is_now=lambda told: told[0].endswith(header))
+    plan.texts({main: old[main], shape: old[shape]})
+    plan.do("open", header)
+    for name, why in ("return", "bad name"), ("grow", "name is used already"):
+        plan.look("rename", *place, name, is_now=lambda told, why=why: told[0].endswith(why))
+    plan.texts(old)
+    plan.look("rename", *place, "surface", is_now=[])
+    plan.texts(new)
+    plan.ask("definition", *place, is_now=[(shape, 5, 4, 11)])
+    plan.ask("uses", *place, is_now=[(main, 11, 26, 33), (header, 7, 4, 11)])
+    plan.ask("workspace", main, "area", is_now=[])
+    for file in files:
+        plan.do("undo", file)
+    plan.texts(old)
+    plan.ask("definition", *place, is_now=[(shape, 5, 4, 8)])
+    plan.ask("uses", *place, is_now=[(main, 11, 26, 30), (header, 7, 4, 8)])
+    plan.ask("workspace", main, "surface", is_now=[])
+    plan.look("rename", main, 11, 22, "renamed", is_now=[])  # helper, static in two files
+    plan.texts(once)
+    plan.do("undo", main)
+    plan.texts(old)
+    plan.look("rename", shape, 5, 4, "surface", is_now=[])  # from its definition
+    plan.texts(new)
+
+
+def branches(plan: Plan, editor: str) -> None:
+    """git checks out another branch, and goes back."""
+    main, shape, header = "src/main.c", "src/shape.c", "src/shape.h"
+
+    def is_found(area: int, sides: int, grow: str) -> None:
+        plan.ask("definition", main, 11, 29, is_now=[(shape, area, 4, 8)])
+        plan.ask("definition", main, 6, 12, is_now=[(header, sides, 8, 13)])
+        plan.ask("definition", main, 11, 40, is_now=[(grow, 0 if "grow" in grow else 1, 4, 8)])
+
+    plan.do("open", main)
+    plan.do("open", header)
+    is_found(5, 2, "lib/list.c")
+    plan.do("git", "checkout", "--quiet", "moved")
+    if editor == "nvim":
+        is_found(5, 2, "lib/list.c")
+        plan.do("open", shape)
+        plan.do("drop", shape)
+        is_found(7, 2, "lib/list.c")
+        plan.do("open", "lib/list.c")  # which is gone
+        plan.do("drop", "lib/list.c")
+        plan.ask("definition", main, 11, 40, is_now=[])
+        plan.do("tell", ["lib/list.c", DELETED], ["lib/grow.c", CREATED], [header, CHANGED])
+    is_found(7, 2, "lib/grow.c")
+    plan.do("reread", header)
+    is_found(7, 3, "lib/grow.c")
+    plan.ask("names", main, 11, 40, is_now=(False, []))
+    plan.ask("names", main, 11, 42, is_now=(False, [("grow", FUNCTION_NAME)]))
+    plan.jump(main, 11, 40, [("lib/grow.c", 0, 4)])
+    plan.do("drop", "lib/grow.c")
+    plan.do("git", "checkout", "--quiet", "main")
+    if editor == "nvim":
+        changed = [[shape, CHANGED], [header, CHANGED], ["lib/list.c", CREATED]]
+        plan.do("tell", ["lib/grow.c", DELETED], *changed)
+    is_found(5, 3, "lib/list.c")
+    plan.do("drop", header)
+    is_found(5, 2, "lib/list.c")
+
+
 # ---- what an editor was told
 
 
@@ -433,8 +744,22 @@ def plain(method: str, told: object, root: pathlib.Path) -> object:
     """An answer in the form in which it is expected."""
     if method == "jump":
         return [(path_of(path, root), line, column) for path, line, column in [told]]
-    if told is None or not isinstance(told, (list, dict)) or "error" in told:
+    if method in ("list", "calls"):
+        places = [(path_of(it[0], root), *it[1:]) for it in told]
+        return sorted(it[: 3 if method == "list" else 4] for it in places)
+    if method == "walk":
+        calls = []
+        for name, item, ranges in told:
+            place = place_of({**item, "range": item["selectionRange"]}, root)
+            where = [(it["start"]["line"], *(it[at]["character"] for at in ENDS)) for it in ranges]
+            calls.append((name, item["name"], *place, where))
+        return calls
+    if method == "complete":
+        return tuple(told)
+    if method in ("text", "rename") or not isinstance(told, (list, dict)):
         return told
+    if "error" in told:
+        return told["error"]["message"]
     if method.endswith(("definition", "references")):
         return [(*place_of(it, root), it["range"]["end"]["character"]) for it in told]
     if method.endswith("hover"):
@@ -442,6 +767,11 @@ def plain(method: str, told: object, root: pathlib.Path) -> object:
         return told["contents"]["value"], begin["line"], begin["character"], end["character"]
     if method.endswith("prepareRename"):
         return told["start"]["line"], *(told[at]["character"] for at in ENDS)
+    if method.endswith("CallHierarchy"):
+        places = [place_of({**it, "range": it["selectionRange"]}, root) for it in told]
+        return [(it["name"], it["kind"], *place) for it, place in zip(told, places)]
+    if method.endswith("completion"):
+        return bool(told["isIncomplete"]), [(it["label"], it["kind"]) for it in told["items"]]
     if method.endswith("rename"):
         edits = [({"uri": uri, **it}) for uri, some in told["changes"].items() for it in some]
         return [(*place_of(it, root), it["range"]["end"]["character"]) for it in edits]
@@ -552,7 +882,7 @@ class Editor:
                 if told[0] is not None:
                     report.check(f"{what}: {step[0]} {step[1]}", False, told[0])
                 continue
-            method = step[2] if step[0] == "ask" else "jump"
+            method = step[2] if step[0] == "ask" else step[0]
             is_text = isinstance(told[0], str)
             answer = told[0] if is_text else plain(method, told[0], root)
             text, value = expected
@@ -590,6 +920,12 @@ def make_tree(root: pathlib.Path) -> None:
     git("init")
     git("add", "--all")
     git("commit", "-m", "A tree")
+    git("checkout", "-b", "moved")
+    write(BRANCH)
+    git("rm", "lib/list.c")
+    git("add", "--all")
+    git("commit", "-m", "Another one")
+    git("checkout", "main")
     write(NEW)
 
 
@@ -598,6 +934,18 @@ def by_hand(editor: Editor) -> None:
     root = editor.room / FOLDERS[editor.name]
     root.mkdir()
     make_tree(root)
+    plan = Plan(root)
+    calls(plan, editor.name)
+    editor.check("calls", plan)
+    plan = Plan(root)
+    renames(plan)
+    editor.check("rename", plan)
+    plan = Plan(root)
+    branches(plan, editor.name)
+    editor.check("branch", plan)
+    for name, text in TREE.items():
+        what = f"{editor.name}, branch: {name} on disk is as it was"
+        report.equal(what, text, (root / name).read_text())
     plan = Plan(root)
     questions(plan)
     edits(plan)
