@@ -41,8 +41,9 @@ use Rattle.cb_lsp.specs.Messages.{reply, replies, request, show_of, stays, told_
 use Rattle.cb_lsp.specs.Params.{changes_in, document_text, event_of, items_in, member_of}
 use Rattle.cb_lsp.specs.Params.{text_in, uri_in}
 use Rattle.cb_lsp.specs.Sync.{AreInSync, Arrived, DocumentsStayInSync, Sent, after_all, arrives}
-use Rattle.cb_lsp.specs.Sync.{name_at, name_of, nothing_sent, sent_after, sent_at, sent_if}
-use Rattle.cb_lsp.specs.Sync.{sent_in_all, sent_of, text_after, text_changed, text_or, text_through}
+use Rattle.cb_lsp.specs.Sync.{in_bytes, name_at, name_of, nothing_sent, sent_after, sent_at}
+use Rattle.cb_lsp.specs.Sync.{sent_if, sent_in_all, sent_of, text_after, text_changed}
+use Rattle.cb_lsp.specs.Sync.{text_opened, text_through}
 use Rattle.cb_lsp.specs.Sync.{with_text}
 use Rattle.cb_lsp.proofs.Changes.{healed, same-text}
 use Rattle.cb_lsp.proofs.Opened.{closed-document}
@@ -206,7 +207,7 @@ abbrev granted : List Reading → Oracle
 granted fs = record { refusals = []; found = fs }
 
 record Good (w : Work) (sent : Sent) : Type 0 where
-  synced : AreInSync w sent
+  synced : AreInSync (λ text. text) w sent
   apart : Distinct w.documents
 
 module _ (w : Work) (sent : Sent) (good : Good w sent) where
@@ -298,10 +299,11 @@ module _ (w : Work) (sent : Sent) (good : Good w sent) where
       put-good (record { name = name; kept = nothing; lost = true }) w.world (Some bytes)
       (λ n other. refl) (λ e. absurd (true≢false e))
 
-  opens-if : (name : List ℕ) (o : Option (List ℕ))
-      → Good (opened_with [] w name o).work (with_text name (text_or (sent name) o) sent)
-  opens-if name None = same-good name (sent name) refl
-  opens-if name (Some bytes) = opens name bytes _ refl
+  opens-if : (e : Encoding) (name : List ℕ) (o : Option (List ℕ))
+      → Good (opened_with [] w name o).work
+      (with_text name (text_opened in_bytes e (sent name) o) sent)
+  opens-if e name None = same-good name (sent name) refl
+  opens-if e name (Some bytes) = opens name bytes _ refl
 
   loses : (d : Document) (why : List ℕ) (t : Option (List ℕ))
       → Good (lost w d why).work (with_text d.name t sent)
@@ -385,7 +387,7 @@ module _ (w : Work) (sent : Sent) (good : Good w sent) where
   changes-to : (e : Encoding) (d : Document) (o : Option (List TextChange))
       → document_of w.documents d.name ≡ Some d
       → Good (changed_to e false w d o).work
-      (with_text d.name (text_changed e (sent d.name) o) sent)
+      (with_text d.name (text_changed in_bytes e (sent d.name) o) sent)
   changes-to e d None found = loses d (codes "bad parameters") (sent d.name)
   changes-to e d (Some cs) found =
       changes-into e d cs (text_by e (text_of_document w d) cs) found refl
@@ -393,12 +395,12 @@ module _ (w : Work) (sent : Sent) (good : Good w sent) where
   changes-if : (e : Encoding) (name : List ℕ) (cs : Option (List TextChange))
       (o : Option Document) → document_of w.documents name ≡ o
       → Good (if_open (λ d. changed_to e false w d cs) w o).work
-      (with_text name (text_changed e (sent name) cs) sent)
-  changes-if e name cs None found = closed-good name (text_changed e (sent name) cs) found
+      (with_text name (text_changed in_bytes e (sent name) cs) sent)
+  changes-if e name cs None found = closed-good name (text_changed in_bytes e (sent name) cs) found
   changes-if e name cs (Some d) found =
       let named = found-name w.documents name d found in
       subst (λ n. Good (changed_to e false w d cs).work
-      (with_text n (text_changed e (sent n) cs) sent)) named
+      (with_text n (text_changed in_bytes e (sent n) cs) sent)) named
       (changes-to e d cs (subst (λ n. document_of w.documents n ≡ Some d) (sym named) found))
 
   saves-as : (d : Document) (b : Bool) → d.lost ≡ b → document_of w.documents d.name ≡ Some d
@@ -443,9 +445,9 @@ module _ (w : Work) (sent : Sent) (good : Good w sent) where
 
   tells : (fs : List Reading) (e : Encoding) (notice : Notice) (params : Option Json) (name : List ℕ)
       → Good (told_of e notice (granted fs) w params name).work
-      (with_text name (text_after e notice params (sent name)) sent)
+      (with_text name (text_after in_bytes e notice params (sent name)) sent)
   tells fs e Ready params name = same-good name (sent name) refl
-  tells fs e Open params name = opens-if name (document_text params)
+  tells fs e Open params name = opens-if e name (document_text params)
   tells fs e Change params name = changes-if e name (changes_in params) _ refl
   tells fs e Save params name = saves-if name _ refl
   tells fs e Close params name = closes-if name (first_found fs) _ refl
@@ -551,14 +553,14 @@ module _ (s : Serving) (sent : Sent) (good : Good s.work sent) where
 
   at-good : (fs : List Reading) (notice : Notice) (params : Option Json) (o : Option (List ℕ))
       → Good (noticed_on notice (granted fs) s params o).server.work
-      (sent_of s.client.encoding sent notice params (name_at s.client.root.path o))
+      (sent_of in_bytes s.client.encoding sent notice params (name_at s.client.root.path o))
   at-good fs notice params None = good
   at-good fs notice params (Some path) =
       let name = name_below s.client.root.path path in
       elim (is_file_name name) as (λ b. Good
       (cond b (moved s name (told_of s.client.encoding notice (granted fs) s.work params name))
       (bad_name s notice path)).server.work
-      (sent_of s.client.encoding sent notice params (cond b (Some name) None))) [
+      (sent_of in_bytes s.client.encoding sent notice params (cond b (Some name) None))) [
         | true ↦ tells s.work sent good fs s.client.encoding notice params name
         | false ↦ elim (ends_as_c path && is_opening notice) as (λ b. Good (cond b
             (replies s (show_of (escaped path) (codes "bad name"))) (stays s)).server.work sent)
@@ -567,7 +569,7 @@ module _ (s : Serving) (sent : Sent) (good : Good s.work sent) where
 
   of-good : (fs : List Reading) (notice : Notice) (params : Option Json) (o : Option (List ℕ))
       → Good (noticed_of notice (granted fs) s params o).server.work
-      (sent_of s.client.encoding sent notice params (name_of s.client.root.path o))
+      (sent_of in_bytes s.client.encoding sent notice params (name_of s.client.root.path o))
   of-good fs notice params None = good
   of-good fs notice params (Some uri) = at-good fs notice params (path_of uri)
 
@@ -592,18 +594,18 @@ registers-good s sent good false = good
 module _ (fs : List Reading) (s : Serving) (sent : Sent) (good : Good s.work sent) where
   -- what a client has does not change by file events
   files-good : (params : Option Json) (w : Work) → Good w sent → (o : Option (List ℕ))
-      → Good w (sent_of s.client.encoding sent Files params o)
+      → Good w (sent_of in_bytes s.client.encoding sent Files params o)
   files-good params w so None = so
   files-good params w so (Some name) = same-good w sent so name (sent name) refl
 
   ready-good : (params : Option Json) (w : Work) → Good w sent → (o : Option (List ℕ))
-      → Good w (sent_of s.client.encoding sent Ready params o)
+      → Good w (sent_of in_bytes s.client.encoding sent Ready params o)
   ready-good params w so None = so
   ready-good params w so (Some name) = same-good w sent so name (sent name) refl
 
   as-good : (notice : Notice) (params : Option Json)
       → Good (noticed_as notice (granted fs) s params).server.work
-      (sent_of s.client.encoding sent notice params
+      (sent_of in_bytes s.client.encoding sent notice params
       (name_of s.client.root.path (uri_in params)))
   as-good Ready params =
       ready-good params (registers s s.watches).server.work (registers-good s sent good s.watches)
@@ -618,18 +620,18 @@ module _ (fs : List Reading) (s : Serving) (sent : Sent) (good : Good s.work sen
       (name_of s.client.root.path (uri_in params))
 
   if-good : (o : Option Notice) (params : Option Json)
-      → Good (noticed_if o (granted fs) s params).server.work (sent_if s.client sent o params)
+      → Good (noticed_if o (granted fs) s params).server.work (sent_if in_bytes s.client sent o params)
   if-good None params = good
   if-good (Some notice) params = as-good notice params
 
   by-good : (stage : Stage) (method : List ℕ) (params : Option Json)
       → Good (noticed_by stage (granted fs) s method params).server.work
-      (sent_at stage s.client sent method params)
+      (sent_at in_bytes stage s.client sent method params)
   by-good Running method params = if-good (notice_of method) params
   by-good Fresh method params = good
   by-good Down method params = good
 
-  message-good : (m : Message) → Good (does (granted fs) s m).server.work (sent_after s sent m)
+  message-good : (m : Message) → Good (does (granted fs) s m).server.work (sent_after in_bytes s sent m)
   unfolding does
   message-good not_json = good
   message-good not_request = good
@@ -641,11 +643,11 @@ module _ (fs : List Reading) (s : Serving) (sent : Sent) (good : Good s.work sen
       (sym (requests_change_nothing (granted fs) s id method params)) good
 
 all-messages : (s : Serving) (sent : Sent) → Good s.work sent → (arrived : List Arrived)
-    → Good (after_all s arrived).work (sent_in_all s sent arrived)
+    → Good (after_all s arrived).work (sent_in_all in_bytes s sent arrived)
 unfolding after_all sent_in_all
 all-messages s sent good [] = good
 all-messages s sent good (a ∷ more) =
-    all-messages (arrives s a) (sent_after s sent a.0) (message-good a.1 s sent good a.0) more
+    all-messages (arrives s a) (sent_after in_bytes s sent a.0) (message-good a.1 s sent good a.0) more
 
 pub documents_stay_in_sync : DocumentsStayInSync
 unfolding document_of Distinct

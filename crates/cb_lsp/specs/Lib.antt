@@ -8,6 +8,8 @@ pub mod Clients
 pub mod CompletionExamples
 pub mod Completions
 pub mod Documents
+pub mod EditorExamples
+pub mod Editors
 pub mod Endings
 pub mod Exact
 pub mod Headers

@@ -20,7 +20,7 @@ use Rattle.cb_lsp.specs.Messages.{Message, Serving, does, fresh_server, notice_o
 use Rattle.cb_lsp.specs.Messages.{request, told_of}
 use Rattle.cb_lsp.specs.Params.{changes_in, document_text, uri_in}
 
--- the text that a client has of the document of a name, if that is open
+-- what a client has of the document of a name, if that is open
 abbrev pub Sent : Type 0
 Sent = List ℕ → Option (List ℕ)
 
@@ -41,55 +41,68 @@ abbrev pub name_of : (root : List ℕ) → Option (List ℕ) → Option (List �
 name_of root None = None
 name_of root (Some uri) = name_at root (path_of uri)
 
--- a text, or else the one before
-abbrev pub text_or : (before : Option (List ℕ)) → Option (List ℕ) → Option (List ℕ)
-text_or before None = before
-text_or before (Some text) = Some text
-
 -- the text that a client has after changes of its text: each was made in the text after those
 -- before it
 unfoldable pub text_through : Encoding → Option (List ℕ) → List TextChange → Option (List ℕ)
 text_through e text [] = text
 text_through e text (c ∷ cs) = text_through e (text_with e c text) cs
 
-abbrev pub text_changed : Encoding → Option (List ℕ) → Option (List TextChange) → Option (List ℕ)
-text_changed e before None = before
-text_changed e before (Some cs) = text_through e before cs
+-- how a client holds texts: what it has of one, and what it has after changes
+pub record Holding : Type 0 where
+  pub has : Encoding → List ℕ → List ℕ
+  pub after : Encoding → Option (List ℕ) → List TextChange → Option (List ℕ)
 
--- the text that a client has of a document after its notification
-abbrev pub text_after : Encoding → Notice → Option Json → Option (List ℕ) → Option (List ℕ)
-text_after e Ready params before = before
-text_after e Open params before = text_or before (document_text params)
-text_after e Change params before = text_changed e before (changes_in params)
-text_after e Save params before = before
-text_after e Close params before = None
-text_after e Files params before = before
+-- as bytes
+abbrev pub in_bytes : Holding
+in_bytes = record { has = λ e text. text; after = text_through }
 
-abbrev pub sent_of : Encoding → Sent → Notice → Option Json → (name : Option (List ℕ)) → Sent
-sent_of e sent notice params None = sent
-sent_of e sent notice params (Some name) =
-    with_text name (text_after e notice params (sent name)) sent
+-- what it has of a text, or else what it had before
+abbrev pub text_opened : Holding → Encoding → (before : Option (List ℕ)) → Option (List ℕ)
+    → Option (List ℕ)
+text_opened h e before None = before
+text_opened h e before (Some text) = Some (h.has e text)
 
-abbrev pub sent_if : Client → Sent → Option Notice → Option Json → Sent
-sent_if c sent None params = sent
-sent_if c sent (Some notice) params =
-    sent_of c.encoding sent notice params (name_of c.root.path (uri_in params))
+abbrev pub text_changed : Holding → Encoding → (before : Option (List ℕ))
+    → Option (List TextChange) → Option (List ℕ)
+text_changed h e before None = before
+text_changed h e before (Some cs) = h.after e before cs
 
-abbrev pub sent_at : Stage → Client → Sent → (method : List ℕ) → Option Json → Sent
-sent_at Running c sent method params = sent_if c sent (notice_of method) params
-sent_at Fresh c sent method params = sent
-sent_at Down c sent method params = sent
+-- what a client has of a document after its notification
+abbrev pub text_after : Holding → Encoding → Notice → Option Json → (before : Option (List ℕ))
+    → Option (List ℕ)
+text_after h e Ready params before = before
+text_after h e Open params before = text_opened h e before (document_text params)
+text_after h e Change params before = text_changed h e before (changes_in params)
+text_after h e Save params before = before
+text_after h e Close params before = None
+text_after h e Files params before = before
+
+abbrev pub sent_of : Holding → Encoding → Sent → Notice → Option Json
+    → (name : Option (List ℕ)) → Sent
+sent_of h e sent notice params None = sent
+sent_of h e sent notice params (Some name) =
+    with_text name (text_after h e notice params (sent name)) sent
+
+abbrev pub sent_if : Holding → Client → Sent → Option Notice → Option Json → Sent
+sent_if h c sent None params = sent
+sent_if h c sent (Some notice) params =
+    sent_of h c.encoding sent notice params (name_of c.root.path (uri_in params))
+
+abbrev pub sent_at : Holding → Stage → Client → Sent → (method : List ℕ) → Option Json → Sent
+sent_at h Running c sent method params = sent_if h c sent (notice_of method) params
+sent_at h Fresh c sent method params = sent
+sent_at h Down c sent method params = sent
 
 -- what a client has after a message to a server, which takes notifications as long as it runs
-abbrev pub sent_after : Serving → Sent → Message → Sent
-sent_after s sent (notification method params) =
-    sent_at s.stage s.client sent method params
-sent_after s sent _ = sent
+abbrev pub sent_after : Holding → Serving → Sent → Message → Sent
+sent_after h s sent (notification method params) =
+    sent_at h s.stage s.client sent method params
+sent_after h s sent _ = sent
 
--- each open document that is not lost has the text that the client has
-abbrev pub AreInSync : Work → Sent → Type 0
-AreInSync w sent = (name : List ℕ) (d : Document) → document_of w.documents name ≡ Some d
-    → d.lost ≡ false → sent name ≡ Some (text_of_file w.world.files name)
+-- of each open document that is not lost the client has what its text comes to
+abbrev pub AreInSync : (has : List ℕ → List ℕ) → Work → Sent → Type 0
+AreInSync has w sent = (name : List ℕ) (d : Document) → document_of w.documents name ≡ Some d
+    → d.lost ≡ false → sent name ≡ Some (has (text_of_file w.world.files name))
 
 -- a message, and what is found where files are read again as it is taken
 abbrev pub Arrived : Type 0
@@ -104,15 +117,19 @@ unfoldable pub after_all : Serving → List Arrived → Serving
 after_all s [] = s
 after_all s (a ∷ more) = after_all (arrives s a) more
 
-unfoldable pub sent_in_all : Serving → Sent → List Arrived → Sent
-sent_in_all s sent [] = sent
-sent_in_all s sent (a ∷ more) = sent_in_all (arrives s a) (sent_after s sent a.0) more
+unfoldable pub sent_in_all : Holding → Serving → Sent → List Arrived → Sent
+sent_in_all h s sent [] = sent
+sent_in_all h s sent (a ∷ more) = sent_in_all h (arrives s a) (sent_after h s sent a.0) more
 
--- after any messages, whatever is found, the documents of a server and of its client are the same
+-- the documents of a server and of its client are the same after messages
+abbrev pub StayInSync : Holding → Serving → List Arrived → Type 0
+StayInSync h s arrived = let after = after_all s arrived in
+    AreInSync (h.has after.client.encoding) after.work (sent_in_all h s nothing_sent arrived)
+
+-- they are after any messages, whatever is found
 abbrev pub DocumentsStayInSync : Type 0
 DocumentsStayInSync = (w : World) (root : Below) (rooted : Bool) (version : List ℕ)
-    (arrived : List Arrived) → let s = fresh_server w root rooted version in
-    AreInSync (after_all s arrived).work (sent_in_all s nothing_sent arrived)
+    (arrived : List Arrived) → StayInSync in_bytes (fresh_server w root rooted version) arrived
 
 -- ---- what changes no file
 

@@ -13,6 +13,7 @@ ghost use Rattle.cb_wire.specs.Positions.{place};
 ghost use Rattle.cb_desk.specs.World.{IsAscending, World};
 ghost use Rattle.cb_lsp.specs.Answers.{word_meaning, word_references};
 ghost use Rattle.cb_lsp.specs.Calls.{calls_reached};
+ghost use Rattle.cb_lsp.specs.Editors.{EditorsCountUnits, EditorsStayInSync};
 ghost use Rattle.cb_lsp.specs.Exact.{RenamesAreExact};
 ghost use Rattle.cb_lsp.specs.Places.{line_range, range_of, range_of_line, start_of_file};
 ghost use Rattle.cb_lsp.specs.Ranges.{IsInOrder, IsNameOf, IsNamedIn, IsUseIn, LiesInside};
@@ -27,9 +28,18 @@ ghost use Rattle.cb_lsp.specs.Words.{word_at};
 
 /// After any messages for which memory was not refused, whatever is found where files are read
 /// again, each document that is open has the text that its client has, unless its last text was
-/// refused and the client was told so.
+/// refused and the client was told so. The client may hold bytes; or it is an editor that holds
+/// units, finds positions by walking them, and puts units in the place of units, where its texts are
+/// in UTF-8 and have no carriage return alone.
 pub fn documents_stay_in_sync()
-    ensures { DocumentsStayInSync }
+    ensures bytes { DocumentsStayInSync }
+    ensures units { EditorsStayInSync }
+{}
+
+/// Changes of a text, one after another, lead to the text whose units such an editor has after
+/// them.
+pub fn editors_count_units()
+    ensures { EditorsCountUnits }
 {}
 
 /// Where the client is told of a refusal, the files are as they were. A request leaves files and

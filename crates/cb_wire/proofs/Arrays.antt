@@ -12,7 +12,7 @@ use Rattle.cb_wire.specs.declared.message.Id.{Id}
 use Rattle.cb_wire.specs.declared.position.Range.{Range}
 use Rattle.cb_wire.specs.declared.symbol.Symbol.{Symbol}
 use Rattle.cb_wire.specs.declared.symbol.TreeSymbol.{TreeSymbol}
-use Rattle.cb_wire.specs.Calls.{call_item_tree}
+use Rattle.cb_wire.specs.Calls.{call_item_tree, calls_of}
 use Rattle.cb_wire.specs.Lists.{list_text}
 use Rattle.cb_wire.specs.Locations.{location_tree}
 use Rattle.cb_wire.specs.Messages.{id_json}
@@ -91,3 +91,23 @@ call-item-numbers i k p q = (
     (tt, (range-numbers i.line p, (range-numbers i.location.range q, tt))),
   ),
 )
+
+ranges-numbers : (rs : List Range) → All FitsWords rs
+    → ItemsHaveNumbers (items_of (map range_tree rs))
+ranges-numbers [] p = tt
+ranges-numbers (r ∷ rs) p =
+    (range-numbers r (All-head FitsWords r rs p), ranges-numbers rs (All-tail FitsWords r rs p))
+
+ranges-depth : (rs : List Range) → items_depth (items_of (map range_tree rs)) ≤ 2
+ranges-depth [] = omega arith
+ranges-depth (r ∷ rs) = omega (arith, ranges-depth rs)
+
+pub calls-numbers : (side : List ℕ) (i : CallItem) (rs : List Range) → i.kind < 2 ^ 64
+    → FitsWords i.line → FitsWords i.location.range → All FitsWords rs
+    → HasNumbers (calls_of side (call_item_tree i) rs)
+calls-numbers side i rs k p q all =
+    (call-item-numbers i k p q, (ranges-numbers rs all, tt))
+
+pub calls-depth : (side : List ℕ) (i : CallItem) (rs : List Range)
+    → depth (calls_of side (call_item_tree i) rs) ≡ 4
+calls-depth side i rs = omega (arith, ranges-depth rs)

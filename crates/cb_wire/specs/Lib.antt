@@ -5,6 +5,7 @@ pub mod Fields
 pub mod Frames
 pub mod Heads
 pub mod Messages
+pub mod Offsets
 pub mod Positions
 pub mod Units
 pub mod Replies

@@ -13,8 +13,10 @@ ghost use Rattle.std.specs.Prelude.{
   All,
   List,
   [],
+  length,
   map,
   Some,
+  take,
   option_map,
 };
 ghost use Rattle.std.specs.List.{AllByRecursion};
@@ -22,6 +24,7 @@ ghost use Rattle.json.specs.Json.{Json, array, document, max_depth};
 ghost use Rattle.json.specs.Print.{escape, print};
 ghost use Rattle.json.specs.Tree.{HasNumbers, depth, json_tokens};
 ghost use Rattle.cb_wire.specs.declared.calls.CallItem.{CallItem};
+ghost use Rattle.cb_wire.specs.declared.calls.Side.{Side};
 ghost use Rattle.cb_wire.specs.declared.completion.Completion.{Completion};
 ghost use Rattle.cb_wire.specs.declared.message.Id.{Id};
 ghost use Rattle.cb_wire.specs.declared.location.Highlight.{Highlight};
@@ -32,6 +35,7 @@ ghost use Rattle.cb_wire.specs.declared.symbol.Symbol.{Symbol};
 ghost use Rattle.cb_wire.specs.declared.symbol.TreeSymbol.{TreeSymbol};
 ghost use Rattle.cb_wire.specs.declared.units.Encoding.{Encoding};
 ghost use Rattle.cb_wire.specs.Messages.{id_json};
+ghost use Rattle.cb_wire.specs.Offsets.{IsText, offset, units};
 ghost use Rattle.cb_wire.specs.Positions.{IsPlace, IsPosition, line_feeds, place, position};
 ghost use Rattle.cb_wire.specs.declared.reply.ErrorCode.{ErrorCode};
 ghost use Rattle.cb_wire.specs.Replies.{error_body, log_body, result_body, show_body};
@@ -55,7 +59,7 @@ ghost use Rattle.cb_wire.specs.Uris.{
   path_of,
   uri_of,
 };
-ghost use Rattle.cb_wire.specs.Calls.{call_item_tree};
+ghost use Rattle.cb_wire.specs.Calls.{call_item_tree, calls_of, side_name};
 ghost use Rattle.cb_wire.specs.Completions.{completion_tree};
 ghost use Rattle.cb_wire.specs.Edits.{FileEdits, HasEdits, edit_of, edits_of, edits_texts};
 ghost use Rattle.cb_wire.specs.Lists.{list_text};
@@ -90,6 +94,13 @@ pub fn positions_are_inverse()
         → p.line ≤ line_feeds text → IsPlace e text (place e text p) }
     ensures has_a_position { (e : Encoding) (text : List ℕ) (at : ℕ)
         → IsPosition e text (position e text at) }
+{}
+
+/// An editor walks the units of a text alone: the offset that a position has there is the number of
+/// units before the place of the position, in a text in UTF-8 that has no carriage return alone.
+pub fn offsets_count_units()
+    ensures { (e : Encoding) (text : List ℕ) (p : Position) → IsText text
+        → offset (units e text) p ≡ length (units e (take (place e text p) text)) }
 {}
 
 /// A folder whose path begins with a slash, no folder, and a file URI are roots.
@@ -159,7 +170,8 @@ pub fn lists_are_arrays()
 {}
 
 /// A range, a location, a range that is marked, a symbol, a function or macro that calls or is
-/// called, and a name that completes a word, are values that can be written and read back.
+/// called, calls that have one end in common, and a name that completes a word, are values that can
+/// be written and read back.
 pub fn places_are_values()
     ensures range { (r : Range) → FitsWords r
         → HasNumbers (range_tree r) × (depth (range_tree r) ≡ 2) }
@@ -175,6 +187,10 @@ pub fn places_are_values()
     ensures call_item { (i : CallItem) → i.kind < 2 ^ 64 → FitsWords i.line
         → FitsWords i.location.range
         → HasNumbers (call_item_tree i) × (depth (call_item_tree i) ≡ 3) }
+    ensures calls { (side : Side) (i : CallItem) (rs : List Range) → i.kind < 2 ^ 64
+        → FitsWords i.line → FitsWords i.location.range → All FitsWords rs
+        → HasNumbers (calls_of (side_name side) (call_item_tree i) rs)
+        × (depth (calls_of (side_name side) (call_item_tree i) rs) ≡ 4) }
     ensures completion { (c : Completion) → c.kind < 2 ^ 64
         → HasNumbers (completion_tree c) × (depth (completion_tree c) ≡ 1) }
 {}

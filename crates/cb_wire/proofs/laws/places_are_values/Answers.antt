@@ -1,6 +1,8 @@
 use Rattle.std.proofs.Common.{refl}
 use Rattle.cb_wire.proofs.Arrays.{location-numbers, range-numbers, symbol-numbers}
-use Rattle.cb_wire.proofs.Arrays.{call-item-numbers, tree-symbol-numbers}
+use Rattle.cb_wire.proofs.Arrays.{call-item-numbers, calls-depth, calls-numbers}
+use Rattle.cb_wire.proofs.Arrays.{tree-symbol-numbers}
+use Rattle.cb_wire.specs.Calls.{side_name}
 use Rattle.cb_wire.proofs.Completions.{item-numbers}
 use Rattle.cb_wire.proofs.laws.places_are_values.Goals as goal
 
@@ -21,6 +23,10 @@ returns-clause-tree_symbol c = λ s k p q. (tree-symbol-numbers s k p q, refl)
 
 pub returns-clause-call_item : goal.returns-clause-call_item
 returns-clause-call_item c = λ i k p q. (call-item-numbers i k p q, refl)
+
+pub returns-clause-calls : goal.returns-clause-calls
+returns-clause-calls c = λ side i rs k p q all.
+    (calls-numbers (side_name side) i rs k p q all, calls-depth (side_name side) i rs)
 
 pub returns-clause-completion : goal.returns-clause-completion
 returns-clause-completion c = λ d k. (item-numbers d k, refl)

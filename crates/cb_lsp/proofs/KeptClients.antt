@@ -1,0 +1,102 @@
+-- A notification changes nothing of what a server knows of its client.
+use Rattle.std.proofs.Common.{◌≡◌, ◌∙◌, refl, List, ℕ, ◌&&◌, Bool, true, false, cond, codes}
+use Rattle.std.proofs.Common.{Option, None, Some}
+use Rattle.json.specs.Find.{get}
+use Rattle.json.specs.Json.{Json, Items, no_items, item}
+use Rattle.cb_tags.specs.Names.{is_file_name}
+use Rattle.cb_wire.specs.Uris.{escaped, name_below, path_of}
+use Rattle.cb_lsp.specs.declared.notice.FileEvent.{FileEvent}
+use Rattle.cb_lsp.specs.declared.notice.FileEvent.TheVariants.{Written, Gone}
+use Rattle.cb_lsp.specs.declared.notice.Notice.{Notice}
+use Rattle.cb_lsp.specs.declared.notice.Notice.TheVariants.{Ready, Open, Change, Save, Close}
+use Rattle.cb_lsp.specs.declared.notice.Notice.TheVariants.{Files}
+use Rattle.cb_lsp.specs.Documents.{Oracle, behind_event, first_refusal, later}
+use Rattle.cb_lsp.specs.Messages.{Serving, all_happened, bad_name, ends_as_c, happened, happened_as}
+use Rattle.cb_lsp.specs.Messages.{happened_at, happened_in, happened_to, is_opening, moved}
+use Rattle.cb_lsp.specs.Messages.{noticed_as, noticed_if, noticed_of, noticed_on}
+use Rattle.cb_lsp.specs.Messages.{registers, replies, show_of, stays, told_of, unread}
+use Rattle.cb_lsp.specs.Params.{event_of, items_in, member_of, text_in, uri_in}
+
+pub record Keeps (s t : Serving) : Type 0 where
+  pub stage : t.stage ≡ s.stage
+  pub client : t.client ≡ s.client
+
+as-is : (s : Serving) → Keeps s s
+as-is s = record { stage = refl; client = refl }
+
+-- ---- file events
+
+at-keeps : (kind : FileEvent) (o : Oracle) (s : Serving) (path : Option (List ℕ))
+    → Keeps s (happened_at kind o s path).server
+at-keeps Gone o s None = as-is s
+at-keeps Gone o s (Some path) = record { stage = refl; client = refl }
+at-keeps Written o s None = as-is s
+at-keeps Written o s (Some path) = record { stage = refl; client = refl }
+
+to-keeps : (kind : FileEvent) (o : Oracle) (s : Serving) (uri : Option (List ℕ))
+    → Keeps s (happened_to kind o s uri).server
+to-keeps kind o s None = as-is s
+to-keeps kind o s (Some uri) =
+    elim (first_refusal o.refusals) as (λ b. Keeps s (cond b (unread s uri)
+    (happened_at kind (later o) s (path_of uri))).server)
+    [ true ↦ as-is s | false ↦ at-keeps kind (later o) s (path_of uri) ]
+
+event-keeps : (kind : Option FileEvent) (o : Oracle) (s : Serving) (event : Json)
+    → Keeps s (happened_as kind o s event).server
+event-keeps None o s event = as-is s
+event-keeps (Some kind) o s event = to-keeps kind o s (text_in (get (codes "uri") event))
+
+all-keep : (o : Oracle) (s : Serving) (events : Items) → Keeps s (all_happened o s events).server
+unfolding all_happened
+all-keep o s no_items = as-is s
+all-keep o s (item event more) =
+    let first = event-keeps (event_of event) o s event in
+    let next = all-keep (behind_event o) (happened o s event).server more in
+    record { stage = next.stage ∙ first.stage; client = next.client ∙ first.client }
+
+in-keeps : (o : Oracle) (s : Serving) (events : Option Items)
+    → Keeps s (happened_in o s events).server
+in-keeps o s None = as-is s
+in-keeps o s (Some events) = all-keep o s events
+
+-- ---- notifications
+
+registers-keeps : (s : Serving) (b : Bool) → Keeps s (registers s b).server
+registers-keeps s true = as-is s
+registers-keeps s false = as-is s
+
+module _ (notice : Notice) (o : Oracle) (s : Serving) (params : Option Json) where
+  on-keeps : (path : Option (List ℕ)) → Keeps s (noticed_on notice o s params path).server
+  on-keeps None = as-is s
+  on-keeps (Some path) =
+      let name = name_below s.client.root.path path in
+      elim (is_file_name name) as (λ b. Keeps s
+      (cond b (moved s name (told_of s.client.encoding notice o s.work params name))
+      (bad_name s notice path)).server) [
+        | true ↦ record { stage = refl; client = refl }
+        | false ↦ elim (ends_as_c path && is_opening notice) as (λ b. Keeps s (cond b
+            (replies s (show_of (escaped path) (codes "bad name"))) (stays s)).server)
+            [ true ↦ as-is s | false ↦ as-is s ]
+      ]
+
+of-keeps : (notice : Notice) (o : Oracle) (s : Serving) (params : Option Json)
+    (uri : Option (List ℕ)) → Keeps s (noticed_of notice o s params uri).server
+of-keeps notice o s params None = as-is s
+of-keeps notice o s params (Some uri) =
+    elim (first_refusal o.refusals) as (λ b. Keeps s (cond b (unread s uri)
+    (noticed_on notice (later o) s params (path_of uri))).server)
+    [ true ↦ as-is s | false ↦ on-keeps notice (later o) s params (path_of uri) ]
+
+as-keeps : (notice : Notice) (o : Oracle) (s : Serving) (params : Option Json)
+    → Keeps s (noticed_as notice o s params).server
+as-keeps Ready o s params = registers-keeps s s.watches
+as-keeps Open o s params = of-keeps Open o s params (uri_in params)
+as-keeps Change o s params = of-keeps Change o s params (uri_in params)
+as-keeps Save o s params = of-keeps Save o s params (uri_in params)
+as-keeps Close o s params = of-keeps Close o s params (uri_in params)
+as-keeps Files o s params = in-keeps o s (items_in (member_of (codes "changes") params))
+
+pub notice-keeps : (notice : Option Notice) (o : Oracle) (s : Serving) (params : Option Json)
+    → Keeps s (noticed_if notice o s params).server
+notice-keeps None o s params = as-is s
+notice-keeps (Some notice) o s params = as-keeps notice o s params
