@@ -28,6 +28,7 @@ FILES = {
 }
 ROOM = tempfile.TemporaryDirectory(prefix="a tree ")  # the root, where a file is read again
 pathlib.Path(ROOM.name, "disk.h").write_bytes(b"#define D TWICE(5)\n" * 200)
+pathlib.Path(ROOM.name, "b.h").write_bytes(FILES["b.h"])  # a rename finds it as it is here
 TOO_LARGE = " " * (MOST_BYTES + 1)
 WORDS = ["lsp", "--max-file-bytes", str(MOST_BYTES), *FILES]
 AT_START = [b"cbrowse: " + name + b"out of memory\n" for name in (b"", b"a.c: ", b"b.h: ")]

@@ -19,9 +19,9 @@ ASCII. An editor that is not there is passed over. What they have to be told was
     Commands  the editor's own command goes to a definition in another file
     Calls     the editor's own commands list references, complete a name and, in nvim, list calls.
               Calls are walked in both directions, over files; those that are typed count
-    Rename    the editor's own command renames a function over three files that are open: their
-              buffers have the new name, and one undo in each brings the old one back. Where a file
-              is not open, the reason is told and no buffer changes
+    Rename    the editor's own command renames a function over three files, of which one is open:
+              their buffers have the new name, and one undo in each brings the old one back. Where
+              the new name cannot be taken, the reason is told and no buffer changes
     Branch    git checks out another branch, in which definitions moved, and goes back. Where eglot
               watches files, they are found where they are now. nvim 0.7.2 watches none: it finds
               them once a buffer is opened and closed, or once the notification is sent, here by
@@ -377,7 +377,10 @@ EMACS_SCRIPT = r"""
                                      (line-beginning-position) (line-end-position))))))
 (defun rename (file line column name)
   (at file line column)
-  (condition-case why (progn (eglot-rename name) [[]])
+  (condition-case why
+      (cl-letf (((symbol-function 'y-or-n-p) (lambda (_) t)))  ; it asks of files without a buffer
+        (eglot-rename name)
+        [[]])
     (jsonrpc-error (vector (vector (alist-get 'jsonrpc-error-message (cddr why)))))))
 (defun text (file)
   (show file)
@@ -655,21 +658,17 @@ def calls(plan: Plan, editor: str) -> None:
 
 
 def renames(plan: Plan) -> None:
-    """A rename over three files, and back."""
+    """A rename over three files, of which one is open, and back."""
     main, shape, header = files = "src/main.c", "src/shape.c", "src/shape.h"
     old = {file: TREE[file] for file in files}
     new = {file: re.sub(r"\barea\b", "surface", TREE[file]) for file in files}
     once = {**old, main: TREE[main].replace("helper", "renamed")}
     place = main, 11, 29
     plan.do("open", main)
-    plan.do("open", shape)
-    plan.ask("rename", *place, is_now=f"not open: {header}")
-    plan.look("rename", *place, "surface", is_now=lambda told: told[0].endswith(header))
-    plan.texts({main: old[main], shape: old[shape]})
-    plan.do("open", header)
     for name, why in ("return", "bad name"), ("grow", "name is used already"):
         plan.look("rename", *place, name, is_now=lambda told, why=why: told[0].endswith(why))
-    plan.texts(old)
+    plan.texts({main: old[main]})
+    plan.ask("rename", *place, is_now=[(main, 11, 26, 30), (shape, 5, 4, 8), (header, 7, 4, 8)])
     plan.look("rename", *place, "surface", is_now=[])
     plan.texts(new)
     plan.ask("definition", *place, is_now=[(shape, 5, 4, 11)])

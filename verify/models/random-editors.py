@@ -8,14 +8,14 @@
 Session number n has the seed n. It has files of the command line or none, a profile, bounds and a
 root, and then 3 to 60 messages, more often those that do something where the session stands:
 documents are opened, changed as a whole and in parts, saved and closed, files are deleted and, in
-some sessions, read again from a folder that holds other texts, and requests ask
-at names, headers and any other place, in both encodings, for lists and trees. Names are renamed,
-often where all files were opened, and then the client makes the edits: in each file the new name
-has to be used where the old one was, and nowhere else. Texts have CR LF,
-lone CRs, letters outside ASCII and, in files and in messages, bytes that are no UTF-8. Some
-messages have wrong parameters, ids or members, are no JSON or have odd heads; some inputs end
-within a message. The input comes in random pieces. Standard output, standard error and the status
-are compared with `server_model.py`.
+some sessions, read again from a folder that holds other texts, and requests ask at names, headers
+and any other place, in both encodings, for lists and trees. Names are renamed, often where each
+file was opened or is on disk as the server has it, and then the client makes the edits: in each
+file the new name has to be used where the old one was, and nowhere else. Texts have CR LF, lone
+CRs, letters outside ASCII and, in files and in messages, bytes that are no UTF-8. Some messages
+have wrong parameters, ids or members, are no JSON or have odd heads; some inputs end within a
+message. The input comes in random pieces. Standard output, standard error and the status are
+compared with `server_model.py`.
 
 At the first difference the seed, the input and both outputs are shown and the exit status is 1.
 Else lines tell how often each message was sent and each reply came.
@@ -133,7 +133,7 @@ class Editor:
             self.folder = self.home if self.chance(0.5) else None
             for name in self.random.sample(NAMES, self.one(0, 3, 6, 9)):
                 path = f"{home}/{name}".encode()
-                text = self.files.get(name) if self.chance(0.2) else self.text()
+                text = self.files.get(name) if self.chance(0.5) else self.text()
                 more = b"x" * (self.bounds.file_bytes + 1)
                 self.disk[path] = self.one(*[text] * 20, more, None)
         folder = self.folder and self.folder.encode()
@@ -344,14 +344,22 @@ class Editor:
         line, column = position_of(text, place, self.server.is_utf16)
         return self.uri_of(name), {"line": line, "character": column}
 
+    def opened(self, name: bytes) -> dict:
+        """A file is opened with the text that it has."""
+        text = self.server.world.files[name].decode("utf-8", "replace")
+        document = {"uri": self.uri_of(name), "text": text}
+        return self.notice("textDocument/didOpen", {"textDocument": document})
+
     def rename(self) -> dict:
-        """A request that renames, or what leads to it: all files are opened before."""
+        """A request that renames, or what leads to it: the files are opened before, but for most of
+        those that an editor has as the server does."""
         if not self.is_renaming and self.server.world.files and self.chance(0.6):
             self.is_renaming = True
-            for name, text in self.server.world.files.items():
-                document = {"uri": self.uri_of(name), "text": text.decode("utf-8", "replace")}
-                self.next.append(self.notice("textDocument/didOpen", {"textDocument": document}))
-            return self.next.pop(0)
+            for name in self.server.world.files:
+                if not self.server.may_edit(name) or self.chance(0.2):
+                    self.next.append(self.opened(name))
+            if self.next:
+                return self.next.pop(0)
         self.is_renaming = self.is_renaming and self.chance(0.7)
         uri, position = self.used()
         params = {"textDocument": {"uri": uri}, "position": position}
@@ -363,10 +371,14 @@ class Editor:
 
     def make_edits(self, reply: dict) -> None:
         """Sends the edits of a reply as changes, from the last one of a file on, and notes which
-        names are used then."""
+        names are used then. A file that is not open is opened before."""
         for uri, edits in reply["result"]["changes"].items():
             name = self.server.file_of({"textDocument": {"uri": uri}})
             text = self.server.world.files[name]
+            if name not in self.server.documents:
+                if text.decode("utf-8", "replace").encode() != text:
+                    continue  # a message cannot carry it
+                self.next.append(self.opened(name))
             uses = self.server.facts(text).uses
             names, ends = {it.place: it.name for it in uses}, ("line", "character")
             for edit in edits:

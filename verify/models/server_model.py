@@ -336,6 +336,9 @@ class Root(NamedTuple):
         begin = self.path + b"/"
         return path[len(begin) :] if path.startswith(begin) else path
 
+    def path_of(self, name):
+        return name if name.startswith(b"/") else self.path + b"/" + name
+
     def uri_of(self, name):
         if name.startswith(b"/"):
             return b"file://" + escaped(name)
@@ -807,13 +810,20 @@ class Server:
                 uses[it] = [use.place for use in found if use.name == name]
         files = [it for it, places in uses.items() if places]
         for it in files:
-            if it not in self.documents or self.documents[it].is_lost:
+            if not self.may_edit(it):
                 raise Error(-32803, quoted(b"not open: " + it)[1:-1])
         edits = [
             b"%s:%s" % (quoted(self.root.uri_of(it)), self.edits(it, uses[it], name, new))
             for it in files
         ]
         return b'{"changes":{%s}}' % b",".join(edits)
+
+    def may_edit(self, file):
+        """Whether an editor has the text of a file: it is open and not lost, or it is not open and
+        has that text on disk."""
+        if file in self.documents:
+            return not self.documents[file].is_lost
+        return self.disk.get(self.root.path_of(file)) == self.world.files[file]
 
     def edits(self, file, places, name, new):
         return listed(

@@ -17,13 +17,15 @@ use Rattle.cb_wire.specs.Uris.{name_below, path_of}
 use Rattle.cb_wire.specs.Values.{items_of, value_text}
 use Rattle.cb_lsp.specs.Answers.{answer_in, answer_named, answer_reply, name_of_uri}
 use Rattle.cb_lsp.specs.Clients.{Client}
-use Rattle.cb_lsp.specs.Documents.{Document}
+use Rattle.cb_lsp.specs.Documents.{Document, Oracle, later}
 use Rattle.cb_lsp.specs.Messages.{Serving, asked_reply}
 use Rattle.cb_lsp.specs.Questions.{Asked, in_file, rename, workspace_symbols}
 use Rattle.cb_lsp.specs.Renames.{Unrenamed, no_definition, renamable_at, renamed_at, renamed_word}
 use Rattle.cb_lsp.specs.Searches.{found_by}
 use Rattle.cb_lsp.specs.Symbols.{session_symbol}
 use Rattle.cb_lsp.specs.declared.question.FileQuestion.{FileQuestion}
+use Rattle.cb_lsp.specs.steps.Works.{only}
+use Rattle.cb_lsp.proofs.Notices.{behind}
 
 -- a file that is there, with its text and what is found in it
 abbrev pub IsThere : Profile → List File → List ℕ → ScannedText → Type 0
@@ -116,7 +118,7 @@ pub puts-named : {A E : Type 0} (s : Serving) (uri path name : List ℕ)
     → Puts before after r (frame (value_text (result_reply id
     (answer_named s.client s.work.world question (Some name)))))
     → Puts before after r
-    (frame (value_text (asked_reply false s id (Ok (in_file uri question)))))
+    (frame (value_text (asked_reply (only false) s id (Ok (in_file uri question)))))
 puts-named s uri path name question id before after r found is put =
     let same : Some name ≡ name_of_uri s.client uri =
     ap Some is ∙ ap (option_map (name_below s.client.root.path)) found in
@@ -127,7 +129,7 @@ pub puts-nowhere : {A E : Type 0} (s : Serving) (uri : List ℕ) (question : Fil
     (id : Json) (before after : Writer) (r : Result A E) → None ≡ path_of uri
     → Puts before after r (frame (value_text (result_reply id null)))
     → Puts before after r
-    (frame (value_text (asked_reply false s id (Ok (in_file uri question)))))
+    (frame (value_text (asked_reply (only false) s id (Ok (in_file uri question)))))
 puts-nowhere s uri question id before after r none put =
     let same : None ≡ name_of_uri s.client uri =
     ap (option_map (name_below s.client.root.path)) none in
@@ -137,91 +139,94 @@ puts-nowhere s uri question id before after r none put =
 -- ---- a name is changed
 
 -- the file is there
-pub puts-renamed-there : {A E : Type 0} (s inside : Serving) (here held : World)
+pub puts-renamed-there : {A E : Type 0} (o : Oracle) (s inside : Serving) (here held : World)
     (ds : List Document) (c : Client) (name : List ℕ) (t : ScannedText) (p : Position)
     (new : List ℕ) (id : Json) (before after : Writer) (r : Result A E)
     → inside ≡ s → Some t ≡ scanned_named here.profile here.files name
     → here ≡ inside.work.world → held ≡ inside.work.world → ds ≡ inside.work.documents
     → c ≡ s.client
     → Puts before after r (frame (value_text (answer_reply id
-    (renamed_word c (record { world = held; documents = ds }) name t.bytes new
+    (renamed_word o c (record { world = held; documents = ds }) name t.bytes new
     (renamable_at held t.bytes (place c.encoding t.bytes p))))))
     → Puts before after r (frame (value_text (answer_reply id
-    (renamed_at s.client s.work p new (Some name)))))
-puts-renamed-there s inside here held ds c name t p new id before after r is found here-is held-is
+    (renamed_at o s.client s.work p new (Some name)))))
+puts-renamed-there o s inside here held ds c name t p new id before after r is found here-is held-is
     ds-is c-is put =
     let file = there here.profile here.files name t found in
     let told : Client → World → List Document → List ℕ → Result Json Unrenamed =
-    λ k w d b. renamed_word k (record { world = w; documents = d }) name b new
+    λ k w d b. renamed_word o k (record { world = w; documents = d }) name b new
     (renamable_at w b (place k.encoding b p)) in
     let w = inside.work.world in
     let d = inside.work.documents in
     let named : told inside.client w d (text_of_file w.files name)
-    ≡ renamed_at inside.client inside.work p new (Some name) =
+    ≡ renamed_at o inside.client inside.work p new (Some name) =
     ap (λ b. if b then told inside.client w d (text_of_file w.files name) else Err no_definition)
     (sym (ap (λ (x : World). has_file x.files name) (sym here-is) ∙ file.0)) in
-    let same : told c held ds t.bytes ≡ renamed_at s.client s.work p new (Some name) =
+    let same : told c held ds t.bytes ≡ renamed_at o s.client s.work p new (Some name) =
     ap (λ k. told k held ds t.bytes) (c-is ∙ ap (λ (x : Serving). x.client) (sym is))
     ∙ ap (λ x. told inside.client x ds t.bytes) held-is
     ∙ ap (λ x. told inside.client w x t.bytes) ds-is
     ∙ ap (told inside.client w d)
     (file.1 ∙ ap (λ (x : World). text_of_file x.files name) here-is)
     ∙ named
-    ∙ ap (λ (x : Serving). renamed_at x.client x.work p new (Some name)) is in
+    ∙ ap (λ (x : Serving). renamed_at o x.client x.work p new (Some name)) is in
     subst (λ a. Puts before after r (frame (value_text (answer_reply id a)))) same put
 
 -- there is no such file
-pub puts-renamed-missing : {A E : Type 0} (s inside : Serving) (here : World) (name : List ℕ)
+pub puts-renamed-missing : {A E : Type 0} (o : Oracle) (s inside : Serving) (here : World) (name : List ℕ)
     (p : Position) (new : List ℕ) (id : Json) (before after : Writer) (r : Result A E)
     → inside ≡ s → None ≡ scanned_named here.profile here.files name → here ≡ inside.work.world
     → Puts before after r (frame (value_text (answer_reply id (Err no_definition))))
     → Puts before after r (frame (value_text (answer_reply id
-    (renamed_at s.client s.work p new (Some name)))))
-puts-renamed-missing s inside here name p new id before after r is found here-is put =
+    (renamed_at o s.client s.work p new (Some name)))))
+puts-renamed-missing o s inside here name p new id before after r is found here-is put =
     let w = s.work.world in
     let text = text_of_file w.files name in
     let none = ap (λ (x : World). has_file x.files name) (sym (here-is
     ∙ ap (λ (x : Serving). x.work.world) is)) ∙ missing here.profile here.files name found in
-    let same : Err no_definition ≡ renamed_at s.client s.work p new (Some name) =
-    ap (λ b. if b then renamed_word s.client s.work name text new
+    let same : Err no_definition ≡ renamed_at o s.client s.work p new (Some name) =
+    ap (λ b. if b then renamed_word o s.client s.work name text new
     (renamable_at w text (place s.client.encoding text p)) else Err no_definition) (sym none) in
     subst (λ a. Puts before after r (frame (value_text (answer_reply id a)))) same put
 
 -- the file of a URI
-pub puts-renamed : {A E : Type 0} (s : Serving) (uri path name : List ℕ) (p : Position)
+pub puts-renamed : {A E : Type 0} (o : Oracle) (s : Serving) (uri path name : List ℕ) (p : Position)
     (text new : List ℕ) (id : Json) (before after : Writer) (r : Result A E)
     → Some path ≡ path_of uri → name ≡ name_below s.client.root.path path → text ≡ new
     → Puts before after r (frame (value_text (answer_reply id
-    (renamed_at s.client s.work p text (Some name)))))
-    → Puts before after r (frame (value_text (asked_reply false s id (Ok (rename uri p new)))))
-puts-renamed s uri path name p text new id before after r found is text-is put =
+    (renamed_at o s.client s.work p text (Some name)))))
+    → Puts before after r
+    (frame (value_text (asked_reply (behind false o) s id (Ok (rename uri p new)))))
+puts-renamed o s uri path name p text new id before after r found is text-is put =
     let same : Some name ≡ name_of_uri s.client uri =
     ap Some is ∙ ap (option_map (name_below s.client.root.path)) found in
     subst (λ t. Puts before after r (frame (value_text (answer_reply id
-    (renamed_at s.client s.work p t (name_of_uri s.client uri)))))) text-is
+    (renamed_at o s.client s.work p t (name_of_uri s.client uri)))))) text-is
     (subst (λ n. Puts before after r (frame (value_text (answer_reply id
-    (renamed_at s.client s.work p text n))))) same put)
+    (renamed_at o s.client s.work p text n))))) same put)
 
 pub puts-renamed-nowhere : {A E : Type 0} (s : Serving) (uri : List ℕ) (p : Position)
     (new : List ℕ) (id : Json) (before after : Writer) (r : Result A E) → None ≡ path_of uri
     → Puts before after r (frame (value_text (answer_reply id (Err no_definition))))
-    → Puts before after r (frame (value_text (asked_reply false s id (Ok (rename uri p new)))))
+    → Puts before after r
+    (frame (value_text (asked_reply (only false) s id (Ok (rename uri p new)))))
 puts-renamed-nowhere s uri p new id before after r none put =
     let same : None ≡ name_of_uri s.client uri =
     ap (option_map (name_below s.client.root.path)) none in
     subst (λ n. Puts before after r
-    (frame (value_text (answer_reply id (renamed_at s.client s.work p new n))))) same put
+    (frame (value_text (answer_reply id
+    (renamed_at (later (only false)) s.client s.work p new n))))) same put
 
 -- ---- a server that is the same
 
-pub puts-asked : {A E : Type 0} (s inside : Serving) (no_memory : Bool) (asked to : Asked)
+pub puts-asked : {A E : Type 0} (s inside : Serving) (o : Oracle) (asked to : Asked)
     (id : Json) (before after : Writer) (r : Result A E) → inside ≡ s → asked ≡ to
-    → Puts before after r (frame (value_text (asked_reply no_memory inside id (Ok asked))))
-    → Puts before after r (frame (value_text (asked_reply no_memory s id (Ok to))))
-puts-asked s inside no_memory asked to id before after r is asks put =
-    subst (λ a. Puts before after r (frame (value_text (asked_reply no_memory s id (Ok a))))) asks
+    → Puts before after r (frame (value_text (asked_reply o inside id (Ok asked))))
+    → Puts before after r (frame (value_text (asked_reply o s id (Ok to))))
+puts-asked s inside o asked to id before after r is asks put =
+    subst (λ a. Puts before after r (frame (value_text (asked_reply o s id (Ok a))))) asks
     (subst (λ (x : Serving). Puts before after r
-    (frame (value_text (asked_reply no_memory x id (Ok asked))))) is put)
+    (frame (value_text (asked_reply o x id (Ok asked))))) is put)
 
 pub puts-symbols : {A E : Type 0} (s inside : Serving) (world : World) (c : Client)
     (query text : List ℕ) (to : Asked) (id : Json) (before after : Writer) (r : Result A E)
@@ -229,12 +234,12 @@ pub puts-symbols : {A E : Type 0} (s inside : Serving) (world : World) (c : Clie
     → world ≡ inside.work.world → c ≡ inside.client → text ≡ query
     → Puts before after r (frame (value_text (result_reply id
     (array (items_of (map (session_symbol c world.files) (found_by world text)))))))
-    → Puts before after r (frame (value_text (asked_reply false s id (Ok to))))
+    → Puts before after r (frame (value_text (asked_reply (only false) s id (Ok to))))
 puts-symbols s inside world c query text to id before after r is asks world-is c-is text-is put =
     let told : Client → World → List ℕ → Json =
     λ k w q. array (items_of (map (session_symbol k w.files) (found_by w q))) in
     let same : told c world text ≡ told inside.client inside.work.world query =
     ap (λ k. told k world text) c-is ∙ ap (λ w. told inside.client w text) world-is
     ∙ ap (told inside.client inside.work.world) text-is in
-    puts-asked s inside false (workspace_symbols query) to id before after r is asks
+    puts-asked s inside (only false) (workspace_symbols query) to id before after r is asks
     (subst (λ j. Puts before after r (frame (value_text (result_reply id j)))) same put)

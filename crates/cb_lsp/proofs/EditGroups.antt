@@ -21,7 +21,7 @@ use Rattle.cb_lsp.proofs.UsesReached.{AreUsesByFile, uses-by-file}
 
 -- ---- uses in a row of one file, as groups
 
-abbrev Groups : Type 0
+abbrev pub Groups : Type 0
 Groups = List (List ℕ × List Fact)
 
 -- of the first group, if it is of a file, the uses; and the groups behind it, or else all
@@ -29,11 +29,11 @@ abbrev first_in : (file : List ℕ) → Groups → List Fact
 first_in file [] = []
 first_in file (g ∷ gs) = if bytes_eq g.0 file then g.1 else []
 
-abbrev behind : (file : List ℕ) → Groups → Groups
+abbrev pub behind : (file : List ℕ) → Groups → Groups
 behind file [] = []
 behind file (g ∷ gs) = if bytes_eq g.0 file then gs else g ∷ gs
 
-unfoldable cut : List Fact → Groups
+unfoldable pub cut : List Fact → Groups
 cut [] = []
 cut (u ∷ us) = (u.file, u ∷ first_in u.file (cut us)) ∷ behind u.file (cut us)
 
@@ -84,7 +84,7 @@ module _ (c : Client) (files : List File) (new : List ℕ) where
 
 -- ---- groups are those of the files
 
-abbrev by_file : List Fact → List (List ℕ) → Groups
+abbrev pub by_file : List Fact → List (List ℕ) → Groups
 by_file us fs = map (λ file. (file, uses_in file us)) fs
 
 -- names that are another one
@@ -184,7 +184,7 @@ grouped-behind u (v ∷ vs) order =
           )
     ]) refl
 
-cut-by-file : (us : List Fact) → AreUsesByFile us → cut us ≡ by_file us (files_of us)
+pub cut-by-file : (us : List Fact) → AreUsesByFile us → cut us ≡ by_file us (files_of us)
 unfolding cut files_of AreOrdered
 cut-by-file [] order = refl
 cut-by-file (u ∷ us) order =

@@ -14,6 +14,7 @@ use Rattle.cb_lsp.specs.Calls.{incoming_calls}
 use Rattle.cb_lsp.specs.Clients.{Client}
 use Rattle.cb_lsp.specs.Messages.{Serving, asked_reply, result_unless}
 use Rattle.cb_lsp.specs.Questions.{incoming}
+use Rattle.cb_lsp.specs.steps.Works.{only}
 
 -- a file that is there, and one that is not
 pub incoming-there : (c : Client) (w : World) (name file text : List ℕ)
@@ -41,7 +42,7 @@ incoming-missing c w name file missing =
 unless-asked : (no_memory : Bool) (s : Serving) (id : Json) (name uri : List ℕ)
     → result_unless no_memory id
     (incoming_named s.client s.work.world name (name_of_uri s.client uri))
-    ≡ asked_reply no_memory s id (Ok (incoming name uri))
+    ≡ asked_reply (only no_memory) s id (Ok (incoming name uri))
 unless-asked true s id name uri = refl
 unless-asked false s id name uri = refl
 
@@ -53,7 +54,7 @@ pub puts-incoming : {A E : Type 0} (no_memory : Bool) (s inside : Serving) (c : 
     → Puts before after r
     (frame (value_text (result_unless no_memory id (incoming_named c w bytes (Some file)))))
     → Puts before after r
-    (frame (value_text (asked_reply no_memory s id (Ok (incoming name uri)))))
+    (frame (value_text (asked_reply (only no_memory) s id (Ok (incoming name uri)))))
 puts-incoming no_memory s inside c w name bytes uri path file id before after r is c-is w-is name-is
     found file-is put =
     let named : Some file ≡ name_of_uri inside.client uri =
@@ -70,7 +71,7 @@ pub puts-incoming-nowhere : {A E : Type 0} (s : Serving) (name uri : List ℕ) (
     (before after : Writer) (r : Result A E) → None ≡ path_of uri
     → Puts before after r (frame (value_text (result_unless false id null)))
     → Puts before after r
-    (frame (value_text (asked_reply false s id (Ok (incoming name uri)))))
+    (frame (value_text (asked_reply (only false) s id (Ok (incoming name uri)))))
 puts-incoming-nowhere s name uri id before after r none put =
     subst (λ n. Puts before after r
     (frame (value_text (result_unless false id (incoming_named s.client s.work.world name n)))))

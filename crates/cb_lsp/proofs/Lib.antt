@@ -48,6 +48,7 @@ pub mod Synced
 pub mod TagsByPlace
 pub mod Turned
 pub mod Undeclared
+pub mod Unedited
 pub mod Untouched
 pub mod UsesApart
 pub mod UsesReached

@@ -1,6 +1,7 @@
 -- The ranges of no text.
 use Rattle.std.proofs.Common.{◌≡◌, ℕ, suc, zero, true, false, List, [], Some, None, refl}
-use Rattle.std.proofs.Common.{if◌then◌else◌}
+use Rattle.std.proofs.Common.{◌==◌, ◌∷◌, length, arith, if◌then◌else◌}
+use Rattle.std.specs.Str.{bytes_eq}
 use Rattle.std.proofs.lemmas.Option.{none-some}
 use Rattle.bstr.specs.Text.{lines_from}
 use Rattle.cb_desk.proofs.PlaceLemmas.{no-text}
@@ -20,6 +21,14 @@ no-file files name missing =
       | true ↦ λ e m. absurd (none-some (text_of_file files name) m)
       | false ↦ λ e m. no-text files name e
     ]) refl missing
+
+-- no bytes
+filled : (n : ℕ) → (suc n == 0) ≡ false
+filled n = grind arith
+
+pub empty-text : (text : List ℕ) → (length text == 0) ≡ bytes_eq text []
+empty-text [] = refl
+empty-text (b ∷ bs) = filled (length bs)
 
 abbrev first-position : Position
 first-position = record { line = 0; character = 0 }

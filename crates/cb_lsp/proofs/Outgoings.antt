@@ -30,6 +30,7 @@ use Rattle.cb_lsp.specs.Questions.{outgoing}
 use Rattle.cb_lsp.specs.declared.outgoing.CalleeGroup.{CalleeGroup}
 use Rattle.cb_lsp.specs.declared.outgoing.CalleeRow.{CalleeRow}
 use Rattle.cb_lsp.specs.steps.Outgoing.{FirstGroup, callee_in, callee_rows, group_in}
+use Rattle.cb_lsp.specs.steps.Works.{only}
 use Rattle.cb_lsp.proofs.Asked.{facts-there}
 use Rattle.cb_lsp.proofs.CallGroups.{IsAlike, cut-front, drop-map, mapped, taken}
 
@@ -171,7 +172,7 @@ outgoing-missing c w name file p missing =
 unless-asked : (no_memory : Bool) (s : Serving) (id : Json) (name uri : List ℕ) (p : Position)
     → result_unless no_memory id
     (outgoing_named s.client s.work.world name p (name_of_uri s.client uri))
-    ≡ asked_reply no_memory s id (Ok (outgoing name uri p))
+    ≡ asked_reply (only no_memory) s id (Ok (outgoing name uri p))
 unless-asked true s id name uri p = refl
 unless-asked false s id name uri p = refl
 
@@ -184,7 +185,7 @@ pub puts-outgoing : {A E : Type 0} (no_memory : Bool) (s inside : Serving) (c : 
     → Puts before after r
     (frame (value_text (result_unless no_memory id (outgoing_named c w bytes p (Some file)))))
     → Puts before after r
-    (frame (value_text (asked_reply no_memory s id (Ok (outgoing name uri p)))))
+    (frame (value_text (asked_reply (only no_memory) s id (Ok (outgoing name uri p)))))
 puts-outgoing no_memory s inside c w name bytes uri path file p id before after r is c-is w-is
     name-is found file-is put =
     let named : Some file ≡ name_of_uri inside.client uri =
@@ -201,7 +202,7 @@ pub puts-outgoing-nowhere : {A E : Type 0} (s : Serving) (name uri : List ℕ) (
     (id : Json) (before after : Writer) (r : Result A E) → None ≡ path_of uri
     → Puts before after r (frame (value_text (result_unless false id null)))
     → Puts before after r
-    (frame (value_text (asked_reply false s id (Ok (outgoing name uri p)))))
+    (frame (value_text (asked_reply (only false) s id (Ok (outgoing name uri p)))))
 puts-outgoing-nowhere s name uri p id before after r none put =
     subst (λ n. Puts before after r
     (frame (value_text (result_unless false id (outgoing_named s.client s.work.world name p n)))))

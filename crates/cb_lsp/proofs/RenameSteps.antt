@@ -26,12 +26,11 @@ use Rattle.cb_wire.specs.Trees.{result_reply}
 use Rattle.cb_wire.specs.Values.{value_text}
 use Rattle.cb_wire.proofs.EditTexts.{edits-reply}
 use Rattle.cb_lsp.specs.Clients.{Client}
-use Rattle.cb_lsp.specs.Documents.{Document, Work}
+use Rattle.cb_lsp.specs.Documents.{Oracle, Work}
 use Rattle.cb_lsp.specs.Meaning.{reaches}
 use Rattle.cb_lsp.specs.References.{uses_reached}
-use Rattle.cb_lsp.specs.Renames.{all_edits, bad_name, file_edits, files_of, first_unopened}
-use Rattle.cb_lsp.specs.Renames.{is_current, is_some_use, renamed_all, renamed_uses, renamed_word}
-use Rattle.cb_lsp.specs.Renames.{used_already}
+use Rattle.cb_lsp.specs.Renames.{all_edits, bad_name, file_edits, files_of, is_some_use}
+use Rattle.cb_lsp.specs.Renames.{renamed_all, renamed_uses, renamed_word, used_already}
 use Rattle.cb_lsp.specs.Symbols.{place_of_use}
 use Rattle.cb_lsp.specs.steps.Located.{Locating}
 use Rattle.cb_lsp.specs.steps.References.{UsesAreByPlace}
@@ -97,20 +96,6 @@ no-more-edits c files new opens most us is =
 pub one-less : (n : ℕ) → (n ≡ 0 → ⊥) → n ≡ suc (n - 1)
 one-less zero some = absurd (some refl)
 one-less (suc n) some = omega arith
-
--- ---- files that are not open
-
-pub unopened-here : (ds : List Document) (us rest : List Fact) (u : Fact) → us ≡ u ∷ rest
-    → is_current ds u.file ≡ false → Some u.file ≡ first_unopened ds us
-unopened-here ds us rest u is closed =
-    ap (λ b. cond (not b) (Some u.file) (first_unopened ds rest)) (sym closed)
-    ∙ ap (first_unopened ds) (sym is)
-
-pub unopened-behind : (ds : List Document) (us rest : List Fact) (u : Fact) → us ≡ u ∷ rest
-    → is_current ds u.file ≡ true → first_unopened ds rest ≡ first_unopened ds us
-unopened-behind ds us rest u is open_is =
-    ap (λ b. cond (not b) (Some u.file) (first_unopened ds rest)) (sym open_is)
-    ∙ ap (first_unopened ds) (sym is)
 
 -- ---- uses in order
 
@@ -181,17 +166,17 @@ edits-written id c files new us l order is =
 
 -- ---- why a name stays
 
-pub renamed-bad : (c : Client) (w : Work) (name text new : List ℕ) (word : Span)
-    → is_name new ≡ false → Err bad_name ≡ renamed_word c w name text new (Some word)
-renamed-bad c w name text new word bad = rw bad
+pub renamed-bad : (o : Oracle) (c : Client) (w : Work) (name text new : List ℕ) (word : Span)
+    → is_name new ≡ false → Err bad_name ≡ renamed_word o c w name text new (Some word)
+renamed-bad o c w name text new word bad = rw bad
 
-pub renamed-used : (c : Client) (w : Work) (name text new : List ℕ) (word : Span)
+pub renamed-used : (o : Oracle) (c : Client) (w : Work) (name text new : List ℕ) (word : Span)
     → is_name new ≡ true → is_some_use (uses_of w.world.profile new w.world.files) ≡ true
-    → Err used_already ≡ renamed_word c w name text new (Some word)
-renamed-used c w name text new word good used = rw (good, used)
+    → Err used_already ≡ renamed_word o c w name text new (Some word)
+renamed-used o c w name text new word good used = rw (good, used)
 
-pub renamed-all : (c : Client) (w : Work) (name text new : List ℕ) (word : Span)
+pub renamed-all : (o : Oracle) (c : Client) (w : Work) (name text new : List ℕ) (word : Span)
     → is_name new ≡ true → is_some_use (uses_of w.world.profile new w.world.files) ≡ false
-    → renamed_all c w new (renamed_uses w.world name text word)
-    ≡ renamed_word c w name text new (Some word)
-renamed-all c w name text new word good free = rw (good, free)
+    → renamed_all o c w new (renamed_uses w.world name text word)
+    ≡ renamed_word o c w name text new (Some word)
+renamed-all o c w name text new word good free = rw (good, free)

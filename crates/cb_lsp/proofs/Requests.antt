@@ -9,42 +9,50 @@ use Rattle.cb_wire.specs.Trees.{error_reply, result_reply}
 use Rattle.cb_lsp.specs.declared.question.Unasked.{Unasked}
 use Rattle.cb_lsp.specs.declared.server.Stage.{Stage}
 use Rattle.cb_lsp.specs.declared.server.Stage.TheVariants.{Fresh, Down}
-use Rattle.cb_lsp.specs.Messages.{Serving, asked_reply, replies, requested, running, unasked_reply}
+use Rattle.cb_lsp.specs.Documents.{Oracle}
+use Rattle.cb_lsp.specs.Messages.{Serving, asked_reply, initialized, replies, requested, running}
+use Rattle.cb_lsp.specs.Messages.{unasked_reply}
 use Rattle.cb_lsp.specs.Questions.{Asked, asked_by}
+use Rattle.cb_lsp.specs.steps.Works.{only}
 
-pub running-again : (m : Bool) (s : Serving) (id : Json) (method : List ℕ) (params : Option Json)
+pub running-again : (o : Oracle) (s : Serving) (id : Json) (method : List ℕ) (params : Option Json)
     → bytes_eq method (codes "initialize") ≡ true
     → replies s (error_reply id InvalidRequest (codes "initialized already"))
-    ≡ running m s id method params
-running-again m s id method params again = rw again
+    ≡ running o s id method params
+running-again o s id method params again = rw again
 
-pub running-down : (m : Bool) (s : Serving) (id : Json) (method : List ℕ) (params : Option Json)
+pub running-down : (o : Oracle) (s : Serving) (id : Json) (method : List ℕ) (params : Option Json)
     → bytes_eq method (codes "initialize") ≡ false → bytes_eq method (codes "shutdown") ≡ true
-    → replies (record s { stage = Down }) (result_reply id null) ≡ running m s id method params
-running-down m s id method params other down = rw (other, down)
+    → replies (record s { stage = Down }) (result_reply id null) ≡ running o s id method params
+running-down o s id method params other down = rw (other, down)
 
-pub running-unasked : (m : Bool) (s : Serving) (id : Json) (method : List ℕ)
+pub running-unasked : (o : Oracle) (s : Serving) (id : Json) (method : List ℕ)
     (params : Option Json) (why : Unasked)
     → bytes_eq method (codes "initialize") ≡ false → bytes_eq method (codes "shutdown") ≡ false
     → Err why ≡ asked_by method params
-    → replies s (unasked_reply id why) ≡ running m s id method params
-running-unasked m s id method params why other up unasked = rw (other, up, ← unasked)
+    → replies s (unasked_reply id why) ≡ running o s id method params
+running-unasked o s id method params why other up unasked = rw (other, up, ← unasked)
 
-pub running-asked : (m : Bool) (s : Serving) (id : Json) (method : List ℕ)
+pub running-asked : (o : Oracle) (s : Serving) (id : Json) (method : List ℕ)
     (params : Option Json) (asked : Asked)
     → bytes_eq method (codes "initialize") ≡ false → bytes_eq method (codes "shutdown") ≡ false
     → Ok asked ≡ asked_by method params
-    → replies s (asked_reply m s id (Ok asked)) ≡ running m s id method params
-running-asked m s id method params asked other up is = rw (other, up, ← is)
+    → replies s (asked_reply o s id (Ok asked)) ≡ running o s id method params
+running-asked o s id method params asked other up is = rw (other, up, ← is)
 
-pub requested-early : (stage : Stage) (m : Bool) (s : Serving) (id : Json) (method : List ℕ)
+pub requested-first : (stage : Stage) (m : Bool) (s : Serving) (id : Json) (method : List ℕ)
+    (params : Option Json) → stage ≡ Fresh → bytes_eq method (codes "initialize") ≡ true
+    → initialized m s id params ≡ requested stage (only m) s id method params
+requested-first stage m s id method params fresh first = rw (fresh, first)
+
+pub requested-early : (stage : Stage) (o : Oracle) (s : Serving) (id : Json) (method : List ℕ)
     (params : Option Json) → stage ≡ Fresh → bytes_eq method (codes "initialize") ≡ false
     → replies s (error_reply id ServerNotInitialized (codes "not initialized"))
-    ≡ requested stage m s id method params
-requested-early stage m s id method params fresh other = rw (fresh, other)
+    ≡ requested stage o s id method params
+requested-early stage o s id method params fresh other = rw (fresh, other)
 
-pub requested-late : (stage : Stage) (m : Bool) (s : Serving) (id : Json) (method : List ℕ)
+pub requested-late : (stage : Stage) (o : Oracle) (s : Serving) (id : Json) (method : List ℕ)
     (params : Option Json) → stage ≡ Down
     → replies s (error_reply id InvalidRequest (codes "shut down"))
-    ≡ requested stage m s id method params
-requested-late stage m s id method params down = rw down
+    ≡ requested stage o s id method params
+requested-late stage o s id method params down = rw down

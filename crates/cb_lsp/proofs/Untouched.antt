@@ -15,8 +15,8 @@ use Rattle.cb_lsp.specs.declared.notice.Notice.TheVariants.{Ready, Open, Change,
 use Rattle.cb_lsp.specs.declared.notice.Notice.TheVariants.{Files}
 use Rattle.cb_lsp.specs.declared.server.Stage.{Stage}
 use Rattle.cb_lsp.specs.declared.server.Stage.TheVariants.{Fresh, Running, Down}
-use Rattle.cb_lsp.specs.Documents.{Document, Reading, Work, after_change, after_open, after_step}
-use Rattle.cb_lsp.specs.Documents.{changed_into, changed_to, document_of, first_found}
+use Rattle.cb_lsp.specs.Documents.{Document, Oracle, Reading, Work, after_change, after_open}
+use Rattle.cb_lsp.specs.Documents.{after_step, changed_into, changed_to, document_of, first_found}
 use Rattle.cb_lsp.specs.Documents.{first_refusal, given, given_found, gone, holds, if_open, is_open}
 use Rattle.cb_lsp.specs.Documents.{is_renewed, kept_text, later_refusals, no_room, opened_if}
 use Rattle.cb_lsp.specs.Documents.{saved_as, taken, text_of_document, text_step, unreadable, without}
@@ -139,11 +139,11 @@ module _ (s : Serving) (id : Json) (method : List ℕ) (params : Option Json) wh
   begins true = refl
   begins false = refl
 
-  runs : (no_memory : Bool) → (running no_memory s id method params).server.work ≡ s.work
-  runs no_memory =
+  runs : (o : Oracle) → (running o s id method params).server.work ≡ s.work
+  runs o =
       let again = replies s (error_reply id InvalidRequest (codes "initialized already")) in
       let down = replies (record s { stage = Down }) (result_reply id null) in
-      let answer = replies s (asked_reply no_memory s id (asked_by method params)) in
+      let answer = replies s (asked_reply o s id (asked_by method params)) in
       elim (bytes_eq method (codes "initialize")) as (λ b.
       (cond b again (cond (bytes_eq method (codes "shutdown")) down answer)).server.work
       ≡ s.work) [
@@ -152,17 +152,18 @@ module _ (s : Serving) (id : Json) (method : List ℕ) (params : Option Json) wh
             (λ b. (cond b down answer).server.work ≡ s.work) [ true ↦ refl | false ↦ refl ]
       ]
 
-  asks : (stage : Stage) (no_memory : Bool)
-      → (requested stage no_memory s id method params).server.work ≡ s.work
-  asks Running no_memory = runs no_memory
-  asks Fresh no_memory =
+  asks : (stage : Stage) (o : Oracle)
+      → (requested stage o s id method params).server.work ≡ s.work
+  asks Running o = runs o
+  asks Fresh o =
+      let no_memory = first_refusal o.refusals in
       let early = replies s (error_reply id ServerNotInitialized (codes "not initialized")) in
       elim (bytes_eq method (codes "initialize")) as
       (λ b. (cond b (initialized no_memory s id params) early).server.work ≡ s.work)
       [ true ↦ begins no_memory | false ↦ refl ]
-  asks Down no_memory = refl
+  asks Down o = refl
 
 pub requests_change_nothing : RequestsChangeNothing
 unfolding does
 requests_change_nothing o s id method params =
-    asks s id method params s.stage (first_refusal o.refusals)
+    asks s id method params s.stage o

@@ -21,7 +21,7 @@ use Rattle.cb_wire.specs.declared.list.TheConstants.{MOST_ELEMENTS}
 use Rattle.cb_lsp.specs.Calls.{callables, incoming_calls, item_of}
 use Rattle.cb_lsp.specs.Clients.{Client}
 use Rattle.cb_lsp.specs.Completions.{completing, completions_of, word_before}
-use Rattle.cb_lsp.specs.Documents.{Work}
+use Rattle.cb_lsp.specs.Documents.{Oracle, Work}
 use Rattle.cb_lsp.specs.Headers.{header_at, header_files}
 use Rattle.cb_lsp.specs.Highlights as marked
 use Rattle.cb_lsp.specs.Highlights.{highlight}
@@ -150,13 +150,13 @@ abbrev pub name_of_uri : Client → List ℕ → Option (List ℕ)
 name_of_uri c uri = option_map (name_below c.root.path) (path_of uri)
 
 -- the answer to a question; a name that is asked to be changed may have to stay
-abbrev pub answer_to : Client → Work → Asked → Result Json Unrenamed
-answer_to c w (in_file uri question) = Ok (answer_named c w.world question (name_of_uri c uri))
-answer_to c w (workspace_symbols query) =
+abbrev pub answer_to : Oracle → Client → Work → Asked → Result Json Unrenamed
+answer_to o c w (in_file uri question) = Ok (answer_named c w.world question (name_of_uri c uri))
+answer_to o c w (workspace_symbols query) =
     Ok (array (items_of (map (session_symbol c w.world.files) (found_by w.world query))))
-answer_to c w (rename uri position new) = renamed_at c w position new (name_of_uri c uri)
-answer_to c w (incoming name uri) = Ok (incoming_named c w.world name (name_of_uri c uri))
-answer_to c w (outgoing name uri p) = Ok (outgoing_named c w.world name p (name_of_uri c uri))
+answer_to o c w (rename uri position new) = renamed_at o c w position new (name_of_uri c uri)
+answer_to o c w (incoming name uri) = Ok (incoming_named c w.world name (name_of_uri c uri))
+answer_to o c w (outgoing name uri p) = Ok (outgoing_named c w.world name p (name_of_uri c uri))
 
 -- the reply with an answer
 abbrev pub answer_reply : (id : Json) → Result Json Unrenamed → Json

@@ -69,16 +69,19 @@ abbrev pub later_found : List Reading → List Reading
 later_found [] = []
 later_found (f ∷ fs) = fs
 
--- what is decided behind the first refusal, and what behind a file event, which has two of them and
--- reads once
+-- what is decided behind the first refusal; what behind a reading, which has one of them; and what
+-- behind a file event, which has two of them and reads once
 abbrev pub later : Oracle → Oracle
 later o = record { refusals = later_refusals o.refusals; found = o.found }
 
-abbrev pub behind_event : Oracle → Oracle
-behind_event o = record {
-  refusals = later_refusals (later_refusals o.refusals);
+abbrev pub behind_reading : Oracle → Oracle
+behind_reading o = record {
+  refusals = later_refusals o.refusals;
   found = later_found o.found;
 }
+
+abbrev pub behind_event : Oracle → Oracle
+behind_event o = behind_reading (later o)
 
 -- ---- documents
 

@@ -1,13 +1,17 @@
 -- What names mean in files, computed. The expected values are worked out by hand.
 use Rattle.std.specs.Prelude.{◌≡◌, ℕ, Bool, true, false, List, [], ◌∷◌, codes, None, Some, refl}
+use Rattle.cb_desk.specs.World.{empty_world, standard_bounds, text_of_file}
 use Rattle.cb_index.specs.Rows.{Fact}
 use Rattle.cb_scan.specs.declared.facts.Kind.{Kind}
 use Rattle.cb_scan.specs.declared.facts.Kind.TheVariants.{Function, Variable, Prototype}
+use Rattle.cb_scan.specs.Profiles.{all_by}
+use Rattle.cb_scan.specs.declared.profile.Rules.TheVariants.{Standard}
 use Rattle.cb_tags.specs.TagLines.{Tag}
 use Rattle.cb_lsp.specs.Meaning.{is_private, meaning}
-use Rattle.cb_lsp.specs.Documents.{Document, document_of, present}
+use Rattle.cb_lsp.specs.Documents.{Document, Oracle, Reading, Work, document_of, gone, holds}
+use Rattle.cb_lsp.specs.Documents.{no_room, present}
 use Rattle.cb_lsp.specs.References.{references}
-use Rattle.cb_lsp.specs.Renames.{files_of, first_unopened, uses_in}
+use Rattle.cb_lsp.specs.Renames.{files_of, first_unedited, no_memory, not_open, uses_in}
 use Rattle.cb_lsp.specs.Searches.{is_like}
 
 -- the definition of `f` in a file, `static` or not
@@ -137,10 +141,53 @@ documents =
     record { name = codes "a.c"; kept = present; lost = false }
     ∷ record { name = codes "b.c"; kept = present; lost = true } ∷ []
 
-pub not_all_are_open : first_unopened documents uses ≡ Some (codes "b.c")
-unfolding document_of
-not_all_are_open = refl
+-- two others are not
+abbrev work : Work
+work = record {
+  world = record (empty_world (all_by Standard) standard_bounds) {
+    files = record { name = codes "c.c"; bytes = codes "1" }
+        ∷ record { name = codes "d.c"; bytes = codes "22" } ∷ [];
+  };
+  documents = documents;
+}
 
-pub all_are_open : first_unopened documents (uses_in (codes "a.c") uses) ≡ None
-unfolding document_of
-all_are_open = refl
+-- these are found, without a refusal of memory, and one is refused at the second file
+abbrev finding : (first second : Reading) → Oracle
+finding first second = record { refusals = []; found = first ∷ second ∷ [] }
+
+abbrev refusing : Oracle
+refusing = record { refusals = false ∷ true ∷ []; found = holds (codes "1") ∷ [] }
+
+abbrev open_and_closed : List (List ℕ)
+open_and_closed = codes "a.c" ∷ codes "c.c" ∷ codes "d.c" ∷ []
+
+-- what is not open is edited where it is found as it is
+pub all_are_edited : first_unedited (finding (holds (codes "1")) (holds (codes "22"))) work
+    open_and_closed ≡ None
+unfolding document_of first_unedited text_of_file
+all_are_edited = refl
+
+pub one_was_changed : first_unedited (finding (holds (codes "1")) (holds (codes "2"))) work
+    open_and_closed ≡ Some (not_open (codes "d.c"))
+unfolding document_of first_unedited text_of_file
+one_was_changed = refl
+
+pub one_is_gone : first_unedited (finding gone (holds (codes "22"))) work open_and_closed
+    ≡ Some (not_open (codes "c.c"))
+unfolding document_of first_unedited text_of_file
+one_is_gone = refl
+
+pub no_room_for_its_bytes : first_unedited (finding (holds (codes "1")) no_room) work
+    open_and_closed ≡ Some no_memory
+unfolding document_of first_unedited text_of_file
+no_room_for_its_bytes = refl
+
+pub no_memory_for_its_path : first_unedited refusing work open_and_closed ≡ Some no_memory
+unfolding document_of first_unedited text_of_file
+no_memory_for_its_path = refl
+
+-- what the disk has of a document does not count
+pub one_is_lost : first_unedited (finding (holds (codes "1")) (holds (codes "22"))) work
+    (codes "b.c" ∷ open_and_closed) ≡ Some (not_open (codes "b.c"))
+unfolding document_of first_unedited text_of_file
+one_is_lost = refl

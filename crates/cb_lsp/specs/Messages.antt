@@ -144,27 +144,32 @@ abbrev pub unasked_reply : Json → Unasked → Json
 unasked_reply id UnknownMethod = error_reply id MethodNotFound (codes "unknown method")
 unasked_reply id BadParameters = error_reply id InvalidParams (codes "bad parameters")
 
-abbrev pub asked_reply : Bool → Serving → Json → Result Asked Unasked → Json
-asked_reply no_memory s id (Err why) = unasked_reply id why
-asked_reply true s id (Ok asked) = out_of_memory_reply id
-asked_reply false s id (Ok asked) = answer_reply id (answer_to s.client s.work asked)
+-- the reply to a question; memory may be refused to it
+abbrev pub reply_to : Bool → Oracle → Serving → Json → Asked → Json
+reply_to true o s id asked = out_of_memory_reply id
+reply_to false o s id asked = answer_reply id (answer_to o s.client s.work asked)
+
+abbrev pub asked_reply : Oracle → Serving → Json → Result Asked Unasked → Json
+asked_reply o s id (Err why) = unasked_reply id why
+asked_reply o s id (Ok asked) = reply_to (first_refusal o.refusals) (later o) s id asked
 
 -- a request to a server that runs
-abbrev pub running : Bool → Serving → Json → List ℕ → Option Json → Outcome
-running no_memory s id method params =
+abbrev pub running : Oracle → Serving → Json → List ℕ → Option Json → Outcome
+running o s id method params =
     if bytes_eq method (codes "initialize")
     then replies s (error_reply id InvalidRequest (codes "initialized already"))
     else (if bytes_eq method (codes "shutdown")
     then replies (record s { stage = Down }) (result_reply id null)
-    else replies s (asked_reply no_memory s id (asked_by method params)))
+    else replies s (asked_reply o s id (asked_by method params)))
 
 -- a request, by the stage of the client
-abbrev pub requested : Stage → Bool → Serving → Json → List ℕ → Option Json → Outcome
-requested Fresh no_memory s id method params =
-    if bytes_eq method (codes "initialize") then initialized no_memory s id params
+abbrev pub requested : Stage → Oracle → Serving → Json → List ℕ → Option Json → Outcome
+requested Fresh o s id method params =
+    if bytes_eq method (codes "initialize")
+    then initialized (first_refusal o.refusals) s id params
     else replies s (error_reply id ServerNotInitialized (codes "not initialized"))
-requested Running no_memory s id method params = running no_memory s id method params
-requested Down no_memory s id method params =
+requested Running o s id method params = running o s id method params
+requested Down o s id method params =
     replies s (error_reply id InvalidRequest (codes "shut down"))
 
 -- ---- notifications
@@ -314,8 +319,7 @@ does o s not_request = replies s (log_of (codes "not a request"))
 does o s reply = stays s
 does o s too_large = replies s (log_of (codes "too large"))
 does o s (notification method params) = noticed_by s.stage o s method params
-does o s (request id method params) =
-    requested s.stage (first_refusal o.refusals) s id method params
+does o s (request id method params) = requested s.stage o s id method params
 
 -- the client ends a run by this message
 abbrev pub is_exit : Message → Bool

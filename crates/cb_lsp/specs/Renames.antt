@@ -1,8 +1,9 @@
--- What is renamed: the uses of a name in its reach, where the editor has each of their files open.
+-- What is renamed: the uses of a name in its reach, where the editor has the text of each of their
+-- files.
 use Rattle.std.specs.Prelude.{ℕ, Bool, true, false, ◌&&◌, ◌++◌, ◌==◌, not, List, [], ◌∷◌}
 use Rattle.std.specs.Prelude.{codes, filter, map, length, ◌+◌, take, Option, None, Some, Result, Ok}
 use Rattle.std.specs.Prelude.{Err, if◌then◌else◌}
-use Rattle.std.specs.List.{find, list_any}
+use Rattle.std.specs.List.{list_any}
 use Rattle.std.specs.Str.{bytes_eq}
 use Rattle.json.specs.Json.{Json, null}
 use Rattle.cb_desk.specs.World.{File, World, has_file, text_of_file}
@@ -20,7 +21,9 @@ use Rattle.cb_wire.specs.Positions.{place}
 use Rattle.cb_wire.specs.Uris.{uri_of}
 use Rattle.cb_wire.specs.Values.{range_tree}
 use Rattle.cb_lsp.specs.Clients.{Client}
-use Rattle.cb_lsp.specs.Documents.{Document, Work, document_of, is_open, was_lost}
+use Rattle.cb_lsp.specs.Documents.{Document, Oracle, Reading, Work, behind_reading, document_of}
+use Rattle.cb_lsp.specs.Documents.{first_found, first_refusal, gone, holds, is_open, no_room}
+use Rattle.cb_lsp.specs.Documents.{unreadable, was_lost}
 use Rattle.cb_lsp.specs.Places.{range_of}
 use Rattle.cb_lsp.specs.References.{uses_reached}
 use Rattle.cb_lsp.specs.Words.{word_at}
@@ -61,14 +64,17 @@ pub data Unrenamed : Type 0 where
   no_definition : Unrenamed
   bad_name : Unrenamed
   used_already : Unrenamed
-  -- a file would have to be edited that is not open, or whose last text was refused
+  -- a file would have to be edited whose text the editor may not have
   not_open : (file : List ℕ) → Unrenamed
+  -- memory was refused where such a file was read again
+  no_memory : Unrenamed
 
 abbrev pub unrenamed_text : Unrenamed → List ℕ
 unrenamed_text no_definition = codes "no such definition"
 unrenamed_text bad_name = codes "bad name"
 unrenamed_text used_already = codes "name is used already"
 unrenamed_text (not_open file) = codes "not open: " ++ file
+unrenamed_text no_memory = codes "out of memory"
 
 -- ---- the uses that are renamed
 
@@ -77,14 +83,6 @@ abbrev pub renamed_uses : World → (name text : List ℕ) → Span → List Fac
 renamed_uses w name text word =
     uses_reached (tags_named w.profile (bytes_of text word) w.files) name
     (uses_of w.profile (bytes_of text word) w.files)
-
--- a file is open, and the editor has the text that the server has
-abbrev pub is_current : List Document → List ℕ → Bool
-is_current ds file = is_open ds file && not (was_lost (document_of ds file))
-
--- the first file of some uses for which that does not hold
-abbrev pub first_unopened : List Document → List Fact → Option (List ℕ)
-first_unopened ds us = find (λ file. not (is_current ds file)) (map (λ (u : Fact). u.file) us)
 
 -- ---- their edits
 
@@ -115,36 +113,80 @@ all_edits c files new us =
     let first = take MOST_ELEMENTS us in
     edits_of (map (file_edits c files new first) (files_of first))
 
+-- ---- the files that are edited
+
+-- why a file that is open is not edited, if so: its last text was refused
+abbrev pub unless_lost : (is_lost : Bool) → (file : List ℕ) → Option Unrenamed
+unless_lost true file = Some (not_open file)
+unless_lost false file = None
+
+-- why one of this text is not edited, if so, which is not open and is read again: another text is
+-- found, or none, or memory is refused to its bytes
+abbrev pub unless_found : (file text : List ℕ) → Reading → Option Unrenamed
+unless_found file text gone = Some (not_open file)
+unless_found file text unreadable = Some (not_open file)
+unless_found file text no_room = Some no_memory
+unless_found file text (holds found) =
+    if bytes_eq found text then None else Some (not_open file)
+
+-- the same where memory may be refused to its path
+abbrev pub unless_read : Oracle → (file text : List ℕ) → Option Unrenamed
+unless_read o file text =
+    if first_refusal o.refusals then Some no_memory
+    else unless_found file text (first_found o.found)
+
+-- why a file is not edited, if so
+abbrev pub unedited : Oracle → Work → (file : List ℕ) → Option Unrenamed
+unedited o w file =
+    if is_open w.documents file then unless_lost (was_lost (document_of w.documents file)) file
+    else unless_read o file (text_of_file w.world.files file)
+
+-- what is decided behind a file, which is read once, unless it is open
+abbrev pub behind_file : List Document → List ℕ → Oracle → Oracle
+behind_file ds file o = if is_open ds file then o else behind_reading o
+
+-- the reason of the first file that has one
+abbrev pub or_reason : Option Unrenamed → Option Unrenamed → Option Unrenamed
+or_reason None other = other
+or_reason (Some why) other = Some why
+
+unfoldable pub first_unedited : Oracle → Work → List (List ℕ) → Option Unrenamed
+first_unedited o w [] = None
+first_unedited o w (file ∷ files) =
+    or_reason (unedited o w file) (first_unedited (behind_file w.documents file o) w files)
+
 -- ---- all of it
 
--- where all files are open
-abbrev pub renamed_if : Client → List File → (new : List ℕ) → List Fact → Option (List ℕ)
+-- where each file is edited
+abbrev pub renamed_if : Client → List File → (new : List ℕ) → List Fact → Option Unrenamed
     → Result Json Unrenamed
 renamed_if c files new us None = Ok (all_edits c files new us)
-renamed_if c files new us (Some file) = Err (not_open file)
+renamed_if c files new us (Some why) = Err why
 
-abbrev pub renamed_all : Client → Work → (new : List ℕ) → List Fact → Result Json Unrenamed
-renamed_all c w new us = renamed_if c w.world.files new us (first_unopened w.documents us)
+abbrev pub renamed_all : Oracle → Client → Work → (new : List ℕ) → List Fact
+    → Result Json Unrenamed
+renamed_all o c w new us =
+    renamed_if c w.world.files new us (first_unedited o w (files_of us))
 
 abbrev pub is_some_use : List Fact → Bool
 is_some_use [] = false
 is_some_use (u ∷ us) = true
 
 -- a word of the file of this name and text is renamed
-abbrev pub renamed_word : Client → Work → (name text new : List ℕ) → Option Span
+abbrev pub renamed_word : Oracle → Client → Work → (name text new : List ℕ) → Option Span
     → Result Json Unrenamed
-renamed_word c w name text new None = Err no_definition
-renamed_word c w name text new (Some word) =
+renamed_word o c w name text new None = Err no_definition
+renamed_word o c w name text new (Some word) =
     if not (is_name new) then Err bad_name
     else (if is_some_use (uses_of w.world.profile new w.world.files) then Err used_already
-    else renamed_all c w new (renamed_uses w.world name text word))
+    else renamed_all o c w new (renamed_uses w.world name text word))
 
 -- the word at a position of a file of this name is renamed, if there is such a file
-abbrev pub renamed_at : Client → Work → Position → (new : List ℕ) → Option (List ℕ)
+abbrev pub renamed_at : Oracle → Client → Work → Position → (new : List ℕ) → Option (List ℕ)
     → Result Json Unrenamed
-renamed_at c w p new None = Err no_definition
-renamed_at c w p new (Some name) =
+renamed_at o c w p new None = Err no_definition
+renamed_at o c w p new (Some name) =
     let text = text_of_file w.world.files name in
     if has_file w.world.files name
-    then renamed_word c w name text new (renamable_at w.world text (place c.encoding text p))
+    then renamed_word o c w name text new (renamable_at w.world text (place c.encoding text p))
     else Err no_definition

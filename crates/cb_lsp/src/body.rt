@@ -57,7 +57,7 @@ impl Server {
             Message::NotRequest => log(out, b"not a request"),
             Message::Reply => Ok(()),
             Message::Notification(call) => self.notice(alloc, disk, out, call),
-            Message::Request(id, call) => self.request(alloc, out, id, call),
+            Message::Request(id, call) => self.request(alloc, disk, out, id, call),
         }
     }
 

@@ -1,6 +1,7 @@
 //! Files that are read again.
 ghost use Rattle.std.specs.Prelude.{◌<◌, ◌^◌};
 
+use cb_desk::Desk;
 use std::alloc::Global;
 
 /// What is found where a file is read again.
@@ -21,4 +22,11 @@ pub trait Disk {
     /// The first bytes of the file of a path, at most so many.
     fn read(&self, alloc: Global, path: &[u8], most: u64) -> Found
         requires { most < 2 ^ 33 };
+}
+
+/// One more than the most bytes of a file, so that a larger one is seen to be too large.
+pub(crate) fn most_read(desk: &Desk) -> u64
+    ensures { result < 2 ^ 33 }
+{
+    desk.bounds().file_bytes() as u64 + 1
 }

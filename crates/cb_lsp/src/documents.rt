@@ -11,7 +11,6 @@ ghost use Rattle.cb_lsp.specs.Documents.{
   without_document,
 };
 ghost use Rattle.cb_lsp.specs.Models.{kept_in, kept_of};
-ghost use Rattle.cb_lsp.specs.Renames.{is_current};
 ghost use Rattle.cb_lsp.specs.steps.Noted.{
   is_present,
   keeps_present,
@@ -187,13 +186,6 @@ impl Documents {
             Some(place) => self.open[place].is_lost(),
             None => false,
         }
-    }
-
-    /// Whether the document of a file is open and not lost.
-    pub(crate) fn is_current(&self, name: &[u8]) -> bool
-        ensures { result ≡ is_current self.now name.now }
-    {
-        self.is_open(name) && !self.is_lost(name)
     }
 
     /// Opens the document of a file, with nothing kept, unless it is open.

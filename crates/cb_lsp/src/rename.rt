@@ -1,6 +1,8 @@
 //! Names that are changed: the edits of their uses.
-ghost use Rattle.std.specs.Prelude.{◌≡◌, Some, take};
+ghost use Rattle.std.specs.Prelude.{◌≡◌, Bool, Err, Some, take};
 ghost use Rattle.std.specs.Option.{option_map};
+ghost use Rattle.std.specs.Str.{bytes_eq};
+ghost use Rattle.cb_desk.specs.World.{text_of_file};
 ghost use Rattle.cb_index.specs.Rows.{uses_of};
 ghost use Rattle.cb_scan.specs.Profiles.{facts_in};
 ghost use Rattle.cb_tags.specs.Writing.{Puts};
@@ -10,25 +12,39 @@ ghost use Rattle.cb_wire.specs.Texts.{frame};
 ghost use Rattle.cb_wire.specs.Trees.{result_reply};
 ghost use Rattle.cb_wire.specs.Values.{value_text};
 ghost use Rattle.cb_lsp.specs.Answers.{answer_reply};
+ghost use Rattle.cb_lsp.specs.Documents.{Oracle, Reading, document_of, was_lost};
+ghost use Rattle.cb_lsp.specs.Models.{found_in};
 ghost use Rattle.cb_lsp.specs.Renames.{
   all_edits,
-  first_unopened,
+  files_of,
+  first_unedited,
   is_some_use,
   renamable_at,
   renamed_all,
   renamed_uses,
   renamed_word,
+  unedited,
+  unless_found,
+  unless_lost,
 };
 ghost use Rattle.cb_lsp.specs.steps.Located.{client_in};
 ghost use Rattle.cb_lsp.specs.steps.References.{UsesAreByPlace, reached_left};
-ghost use Rattle.cb_lsp.specs.steps.Renames.{edits_left, is_last_of, work_in};
+ghost use Rattle.cb_lsp.specs.steps.Renames.{
+  edits_left,
+  is_last_of,
+  reason_of,
+  unedited_if,
+  work_in,
+};
+ghost use Rattle.cb_lsp.specs.steps.Works.{one_change};
 
 use crate::answers::FileAsked;
+use crate::disk::{Disk, Found, most_read};
 use crate::documents::Documents;
 use crate::location::Located;
 use crate::place::bytes_of;
 use crate::reach::Reached;
-use crate::written::{put_failure, put_not_open};
+use crate::written::{put_failure, put_not_open, put_refusal};
 use cb_desk::Desk;
 use cb_scan::{Span, is_name};
 use cb_tags::{Sink, WriteFault};
@@ -36,6 +52,7 @@ use cb_wire::{
     Elements, ErrorCode, FileEdit, Id, MOST_ELEMENTS, Part, Position, place_of_position,
     put_list_result,
 };
+use std::alloc::Global;
 use std::io::Write;
 
 /// Whether a use in a file is the last one there, before others.
@@ -99,18 +116,28 @@ impl<'a, 'p> Elements for UseEdits<'a, 'p> {
     }
 }
 
-/// The first file of some uses that the editor has not open, or whose last text was refused.
-fn first_unopened<'a>(documents: &Documents, uses: Reached<'a, '_>) -> Option<&'a [u8]>
-    ensures { option_map (λ file. file.now) result
-        ≡ first_unopened documents.now (reached_left uses.entry) }
+/// Why a file with a use is not edited.
+#[derive(Clone, Copy, Debug)]
+enum Unedited<'a> {
+    /// The editor may have another text than the server.
+    NotOpen(&'a [u8]),
+    /// Memory was refused where it was read again.
+    NoMemory,
+}
+
+/// Writes why a file is not edited.
+fn put_unedited<W: Write>(
+    out: &mut Sink<W>,
+    id: Id<'_>,
+    why: Unedited<'_>,
+) -> Result<(), WriteFault>
+    ensures { Puts out.old out.new result (frame (value_text (answer_reply (id_json id.entry)
+        (Err (reason_of why.entry))))) }
 {
-    let mut left = uses;
-    'uses: while let Some(spot) = left.next() {
-        if !documents.is_current(spot.file) {
-            return Some(spot.file);
-        }
+    match why {
+        Unedited::NotOpen(file) => put_not_open(out, id, file),
+        Unedited::NoMemory => put_refusal(out, id),
     }
-    None
 }
 
 /// Whether a name has a use.
@@ -149,6 +176,109 @@ impl<'a> Renaming<'a> {
         )
     }
 
+    /// Whether a file has a text.
+    fn has_text(&self, file: &[u8], text: &[u8]) -> bool
+        ensures { result ≡ bytes_eq text.now (text_of_file (work_in self.now).world.files file.now) }
+    {
+        match self.asked.desk.source(file) {
+            Some(source) => text == source.bytes(),
+            None => text.is_empty(),
+        }
+    }
+
+    /// Why a file that is not open is not edited, by what is found of it.
+    fn unless_found(&self, file: &'a [u8], found: Found) -> Option<Unedited<'a>>
+        ensures { option_map reason_of result ≡ unless_found file.entry.now
+            (text_of_file (work_in self.now).world.files file.entry.now) (found_in found) }
+    {
+        match found {
+            Found::Holds(text) => {
+                if self.has_text(file, text.as_slice()) {
+                    None
+                } else {
+                    Some(Unedited::NotOpen(file))
+                }
+            }
+            Found::NoRoom => Some(Unedited::NoMemory),
+            Found::Gone => Some(Unedited::NotOpen(file)),
+            Found::Unreadable => Some(Unedited::NotOpen(file)),
+        }
+    }
+
+    /// Why a file that is open is not edited.
+    fn unless_lost(&self, file: &'a [u8]) -> Option<Unedited<'a>>
+        ensures { option_map reason_of result ≡ unless_lost
+            (was_lost (document_of (work_in self.now).documents file.entry.now)) file.entry.now }
+    {
+        if self.documents.is_lost(file) {
+            Some(Unedited::NotOpen(file))
+        } else {
+            None
+        }
+    }
+
+    /// Why a file is not edited. One that is not open is read again.
+    fn unedited<D: Disk>(
+        &self,
+        alloc: Global,
+        disk: &D,
+        file: &'a [u8],
+    ) -> Option<Unedited<'a>>
+        ensures { (no_path : Bool) × (found : Reading) × (option_map reason_of result
+            ≡ unedited (one_change no_path found) (work_in self.now) file.entry.now) }
+    {
+        if self.documents.is_open(file) {
+            return self.unless_lost(file);
+        }
+        let path = match self.asked.forms.root.path_of(alloc, file) {
+            Ok(path) => path,
+            Err(_) => return Some(Unedited::NoMemory),
+        };
+        let most = most_read(self.asked.desk);
+        let found = disk.read(alloc, path.as_slice(), most);
+        self.unless_found(file, found)
+    }
+
+    /// The same for the file of a use, if it is the first one of its file.
+    fn unedited_if<D: Disk>(
+        &self,
+        alloc: Global,
+        disk: &D,
+        opens: bool,
+        file: &'a [u8],
+    ) -> Option<Unedited<'a>>
+        ensures { (no_path : Bool) × (found : Reading) × (option_map reason_of result
+            ≡ unedited_if opens (one_change no_path found) (work_in self.now) file.entry.now) }
+    {
+        if opens {
+            self.unedited(alloc, disk, file)
+        } else {
+            None
+        }
+    }
+
+    /// Why the first file that is not edited is not.
+    fn first_unedited<D: Disk>(
+        &self,
+        alloc: Global,
+        disk: &D,
+        uses: Reached<'a, '_>,
+    ) -> Option<Unedited<'a>>
+        requires { UsesAreByPlace (reached_left uses) }
+        ensures { (o : Oracle) × (option_map reason_of result ≡ first_unedited o (work_in self.now)
+            (files_of (reached_left uses.entry))) }
+    {
+        let mut left = uses;
+        let mut opens = true;
+        'uses: while let Some(spot) = left.next() {
+            match self.unedited_if(alloc, disk, opens, spot.file) {
+                Some(why) => return Some(why),
+                None => opens = is_last_of(spot.file, 1, &left),
+            }
+        }
+        None
+    }
+
     /// Writes the edits of uses.
     fn put_edits<W: Write>(
         &self,
@@ -179,30 +309,40 @@ impl<'a> Renaming<'a> {
         )
     }
 
-    /// Writes how a word is renamed, where all its files are open.
-    fn put_all<W: Write>(&self, out: &mut Sink<W>, id: Id<'_>, word: Span) -> Result<(), WriteFault>
-        ensures { Puts out.old out.new result (frame (value_text (answer_reply (id_json id.entry)
-            (renamed_all (client_in self.now.asked.forms) (work_in self.now) self.now.new_name.now
+    /// Writes how a word is renamed, where each of its files is edited.
+    fn put_all<D: Disk, W: Write>(
+        &self,
+        alloc: Global,
+        disk: &D,
+        out: &mut Sink<W>,
+        id: Id<'_>,
+        word: Span,
+    ) -> Result<(), WriteFault>
+        ensures { (o : Oracle) × Puts out.old out.new result (frame (value_text
+            (answer_reply (id_json id.entry) (renamed_all o (client_in self.now.asked.forms)
+            (work_in self.now) self.now.new_name.now
             (renamed_uses (work_in self.now).world self.now.asked.name.now
             self.now.asked.source.now word))))) }
     {
-        match first_unopened(self.documents, self.uses(word)) {
-            Some(file) => put_not_open(out, id, file),
+        match self.first_unedited(alloc, disk, self.uses(word)) {
+            Some(why) => put_unedited(out, id, why),
             None => self.put_edits(out, id, self.uses(word)),
         }
     }
 
     /// Writes how a word is renamed, if the new name is a name that is not used.
-    fn put_named<W: Write>(
+    fn put_named<D: Disk, W: Write>(
         &self,
+        alloc: Global,
+        disk: &D,
         out: &mut Sink<W>,
         id: Id<'_>,
         word: Span,
     ) -> Result<(), WriteFault>
-        ensures { Puts out.old out.new result (frame (value_text (answer_reply (id_json id.entry)
-            (renamed_word (client_in self.now.asked.forms) (work_in self.now)
-            self.now.asked.name.now self.now.asked.source.now self.now.new_name.now
-            (Some word))))) }
+        ensures { (o : Oracle) × Puts out.old out.new result (frame (value_text
+            (answer_reply (id_json id.entry) (renamed_word o (client_in self.now.asked.forms)
+            (work_in self.now) self.now.asked.name.now self.now.asked.source.now
+            self.now.new_name.now (Some word))))) }
     {
         if !is_name(self.new_name) {
             return put_failure(out, id, ErrorCode::RequestFailed, b"bad name");
@@ -210,44 +350,50 @@ impl<'a> Renaming<'a> {
         if is_used(self.asked.desk, self.new_name) {
             return put_failure(out, id, ErrorCode::RequestFailed, b"name is used already");
         }
-        self.put_all(out, id, word)
+        self.put_all(alloc, disk, out, id, word)
     }
 
     /// Writes how a word is renamed, if there is one.
-    fn put_word<W: Write>(
+    fn put_word<D: Disk, W: Write>(
         &self,
+        alloc: Global,
+        disk: &D,
         out: &mut Sink<W>,
         id: Id<'_>,
         word: Option<Span>,
     ) -> Result<(), WriteFault>
-        ensures { Puts out.old out.new result (frame (value_text (answer_reply (id_json id.entry)
-            (renamed_word (client_in self.now.asked.forms) (work_in self.now)
-            self.now.asked.name.now self.now.asked.source.now self.now.new_name.now word)))) }
+        ensures { (o : Oracle) × Puts out.old out.new result (frame (value_text
+            (answer_reply (id_json id.entry) (renamed_word o (client_in self.now.asked.forms)
+            (work_in self.now) self.now.asked.name.now self.now.asked.source.now
+            self.now.new_name.now word)))) }
     {
         match word {
-            Some(word) => self.put_named(out, id, word),
+            Some(word) => self.put_named(alloc, disk, out, id, word),
             None => put_failure(out, id, ErrorCode::RequestFailed, b"no such definition"),
         }
     }
 
     /// Writes how the word at a position is renamed.
-    pub(crate) fn put<W: Write>(
+    pub(crate) fn put<D: Disk, W: Write>(
         &self,
+        alloc: Global,
+        disk: &D,
         out: &mut Sink<W>,
         id: Id<'_>,
         position: Position,
     ) -> Result<(), WriteFault>
         requires { self.now.asked.facts.now
             ≡ facts_in (work_in self.now).world.profile self.now.asked.source.now }
-        ensures { Puts out.old out.new result (frame (value_text (answer_reply (id_json id.entry)
-            (renamed_word (client_in self.now.asked.forms) (work_in self.now)
-            self.now.asked.name.now self.now.asked.source.now self.now.new_name.now
+        ensures { (o : Oracle) × Puts out.old out.new result (frame (value_text
+            (answer_reply (id_json id.entry) (renamed_word o (client_in self.now.asked.forms)
+            (work_in self.now) self.now.asked.name.now self.now.asked.source.now
+            self.now.new_name.now
             (renamable_at (work_in self.now).world self.now.asked.source.now
             (place self.now.asked.forms.encoding self.now.asked.source.now position)))))) }
     {
         let text = self.asked.source.bytes();
         let place = place_of_position(self.asked.forms.encoding, text, position);
         let word = self.asked.renamable_at(place);
-        self.put_word(out, id, word)
+        self.put_word(alloc, disk, out, id, word)
     }
 }

@@ -5,7 +5,7 @@ ghost use Rattle.cb_lsp.specs.steps.Values.{seen};
 
 use crate::answers::{FileAsked, put_session_symbols};
 use crate::callers::put_incoming;
-use crate::disk::{Disk, Found};
+use crate::disk::{Disk, Found, most_read};
 use crate::location::Forms;
 use crate::notice::{FileEvent, Notice};
 use crate::outgoing::put_outgoing;
@@ -129,7 +129,7 @@ impl Server {
     ghost use Rattle.cb_lsp.specs.Questions.{in_file, incoming, outgoing, rename};
     ghost use Rattle.cb_lsp.specs.Renames.{renamed_at};
     ghost use Rattle.cb_lsp.specs.steps.Located.{client_in};
-    ghost use Rattle.cb_lsp.specs.steps.Works.{one_change, one_event};
+    ghost use Rattle.cb_lsp.specs.steps.Works.{one_change, one_event, only};
     ghost use Rattle.cb_lsp.specs.Documents.{Oracle, Reading};
     ghost use Rattle.cb_lsp.specs.Bodies.{Does};
     ghost use Rattle.cb_lsp.specs.steps.Values.{seen};
@@ -171,14 +171,15 @@ impl Server {
     }
 
     /// Answers a request, by the stage of the client.
-    pub(crate) fn request<W: Write>(
+    pub(crate) fn request<D: Disk, W: Write>(
         &mut self,
         alloc: Global,
+        disk: &D,
         out: &mut Sink<W>,
         id: Id<'_>,
         call: Call<'_, '_>,
     ) -> Result<(), WriteFault>
-        ensures { (no_memory : Bool) × Does (requested self.old.stage no_memory self.old
+        ensures { (o : Oracle) × Does (requested self.old.stage o self.old
             (id_json id.entry) call.entry.method.now (seen call.entry.params)) self.new
             out.old out.new result }
     {
@@ -190,7 +191,7 @@ impl Server {
                     put_failure(out, id, ErrorCode::ServerNotInitialized, b"not initialized")
                 }
             }
-            Stage::Running => self.run(alloc, out, id, call),
+            Stage::Running => self.run(alloc, disk, out, id, call),
             Stage::Down => put_failure(out, id, ErrorCode::InvalidRequest, b"shut down"),
         }
     }
@@ -235,14 +236,15 @@ impl Server {
     }
 
     /// Answers a request of a client that is initialized.
-    fn run<W: Write>(
+    fn run<D: Disk, W: Write>(
         &mut self,
         alloc: Global,
+        disk: &D,
         out: &mut Sink<W>,
         id: Id<'_>,
         call: Call<'_, '_>,
     ) -> Result<(), WriteFault>
-        ensures { (no_memory : Bool) × Does (running no_memory self.old (id_json id.entry)
+        ensures { (o : Oracle) × Does (running o self.old (id_json id.entry)
             call.entry.method.now (seen call.entry.params)) self.new out.old out.new result }
     {
         if call.method == "initialize" {
@@ -253,7 +255,7 @@ impl Server {
             return put_null(out, id);
         }
         match question_of(call) {
-            Ok(question) => self.answer(alloc, out, id, question),
+            Ok(question) => self.answer(alloc, disk, out, id, question),
             Err(why) => put_unasked(out, id, why),
         }
     }
@@ -273,16 +275,17 @@ impl Server {
     }
 
     /// Answers a question.
-    fn answer<W: Write>(
+    fn answer<D: Disk, W: Write>(
         &mut self,
         alloc: Global,
+        disk: &D,
         out: &mut Sink<W>,
         id: Id<'_>,
         question: Question<'_>,
     ) -> Result<(), WriteFault>
         ensures same { self.new ≡ self.old }
-        ensures put { (no_memory : Bool) × Puts out.old out.new result (frame (value_text
-            (asked_reply no_memory self.old (id_json id.entry) (Ok (asked_of question.entry))))) }
+        ensures put { (o : Oracle) × Puts out.old out.new result (frame (value_text
+            (asked_reply o self.old (id_json id.entry) (Ok (asked_of question.entry))))) }
     {
         self.settle(question);
         match question {
@@ -291,7 +294,7 @@ impl Server {
                 put_session_symbols(self.forms(), self.work.desk(), out, id, query.as_bytes())
             }
             Question::Rename(uri, position, new_name) => {
-                self.rename_at(alloc, out, id, uri, position, new_name)
+                self.rename_at(alloc, disk, out, id, uri, position, new_name)
             }
             Question::Incoming(name, uri) => self.incoming_at(alloc, out, id, name, uri),
             Question::Outgoing(name, uri, position) => {
@@ -310,7 +313,8 @@ impl Server {
         question: FileQuestion,
     ) -> Result<(), WriteFault>
         ensures { (no_memory : Bool) × Puts out.old out.new result (frame (value_text
-            (asked_reply no_memory self.now (id_json id.entry) (Ok (in_file uri.now question))))) }
+            (asked_reply (only no_memory) self.now (id_json id.entry)
+            (Ok (in_file uri.now question))))) }
     {
         match path_of_uri(alloc, uri.as_bytes()) {
             Ok(Some(path)) => {
@@ -349,23 +353,24 @@ impl Server {
     }
 
     /// Answers how the word at a position of the file of a URI is renamed.
-    fn rename_at<W: Write>(
+    fn rename_at<D: Disk, W: Write>(
         &self,
         alloc: Global,
+        disk: &D,
         out: &mut Sink<W>,
         id: Id<'_>,
         uri: &str,
         position: Position,
         new_name: &str,
     ) -> Result<(), WriteFault>
-        ensures { (no_memory : Bool) × Puts out.old out.new result (frame (value_text
-            (asked_reply no_memory self.now (id_json id.entry)
+        ensures { (o : Oracle) × Puts out.old out.new result (frame (value_text
+            (asked_reply o self.now (id_json id.entry)
             (Ok (rename uri.now position new_name.now))))) }
     {
         match path_of_uri(alloc, uri.as_bytes()) {
             Ok(Some(path)) => {
                 let name = self.root.name(path.as_slice());
-                self.rename_in(out, id, name, position, new_name.as_bytes())
+                self.rename_in(alloc, disk, out, id, name, position, new_name.as_bytes())
             }
             Ok(None) => put_failure(out, id, ErrorCode::RequestFailed, b"no such definition"),
             Err(_) => put_refusal(out, id),
@@ -373,16 +378,19 @@ impl Server {
     }
 
     /// Answers how the word at a position of the file of a name is renamed.
-    fn rename_in<W: Write>(
+    fn rename_in<D: Disk, W: Write>(
         &self,
+        alloc: Global,
+        disk: &D,
         out: &mut Sink<W>,
         id: Id<'_>,
         name: &[u8],
         position: Position,
         new_name: &[u8],
     ) -> Result<(), WriteFault>
-        ensures { Puts out.old out.new result (frame (value_text (answer_reply (id_json id.entry)
-            (renamed_at self.now.client self.now.work position new_name.now (Some name.now))))) }
+        ensures { (o : Oracle) × Puts out.old out.new result (frame (value_text
+            (answer_reply (id_json id.entry) (renamed_at o self.now.client self.now.work position
+            new_name.now (Some name.now))))) }
     {
         match self.work.desk().scanned(name) {
             Some((source, facts)) => {
@@ -398,7 +406,7 @@ impl Server {
                     documents: self.work.documents(),
                     new_name,
                 };
-                renaming.put(out, id, position)
+                renaming.put(alloc, disk, out, id, position)
             }
             None => put_failure(out, id, ErrorCode::RequestFailed, b"no such definition"),
         }
@@ -414,7 +422,7 @@ impl Server {
         uri: &str,
     ) -> Result<(), WriteFault>
         ensures { (no_memory : Bool) × Puts out.old out.new result (frame (value_text
-            (asked_reply no_memory self.now (id_json id.entry)
+            (asked_reply (only no_memory) self.now (id_json id.entry)
             (Ok (incoming name.now uri.now))))) }
     {
         match path_of_uri(alloc, uri.as_bytes()) {
@@ -439,7 +447,7 @@ impl Server {
         position: Position,
     ) -> Result<(), WriteFault>
         ensures { (no_memory : Bool) × Puts out.old out.new result (frame (value_text
-            (asked_reply no_memory self.now (id_json id.entry)
+            (asked_reply (only no_memory) self.now (id_json id.entry)
             (Ok (outgoing name.now uri.now position))))) }
     {
         match path_of_uri(alloc, uri.as_bytes()) {
@@ -523,13 +531,6 @@ impl Server {
         }
     }
 
-    /// One more than the most bytes of a file, so that a larger one is seen to be too large.
-    fn most_read(&self) -> u64
-        ensures { result < 2 ^ 33 }
-    {
-        self.work.desk().bounds().file_bytes() as u64 + 1
-    }
-
     /// What is found where a document is closed, whose file is read again.
     fn found_behind<D: Disk>(
         &self,
@@ -540,7 +541,7 @@ impl Server {
         name: &[u8],
     ) -> Found {
         if notice.is_closing() && self.work.documents().is_open(name) {
-            disk.read(alloc, path, self.most_read())
+            disk.read(alloc, path, most_read(self.work.desk()))
         } else {
             Found::Gone
         }
@@ -652,7 +653,7 @@ impl Server {
         if !self.work.renews(name, may_enter(path, name)) {
             return Ok(());
         }
-        let found = disk.read(alloc, path, self.most_read());
+        let found = disk.read(alloc, path, most_read(self.work.desk()));
         let told = self.work.give_found(alloc, name, found, None);
         put_told(out, name, told)
     }

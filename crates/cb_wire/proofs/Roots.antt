@@ -20,8 +20,8 @@ use Rattle.percent_encoding.proofs.PercentLemmas.{percent_decode-percent_encode_
 use Rattle.cb_tags.proofs.Follows.{Some-same}
 use Rattle.cb_wire.specs.Uris.{Below, IsRoot, IsBelow, after, after_slash, begins_with_slash}
 use Rattle.cb_wire.specs.Uris.{escaped, escape_byte, escaped_path, if_path, is_kept, last_slashes}
-use Rattle.cb_wire.specs.Uris.{name_below, of_folder, of_uri, on_this_host, path_of, slash, uri_of}
-use Rattle.cb_wire.specs.Uris.{without_slashes}
+use Rattle.cb_wire.specs.Uris.{name_below, of_folder, of_uri, on_this_host, path_below, path_of}
+use Rattle.cb_wire.specs.Uris.{slash, uri_of, without_slashes}
 
 -- a slash is no part of an escape
 decode-slash : (xs ys : List ℕ) → percent_decode (xs ++ 47 ∷ ys)
@@ -284,22 +284,33 @@ name-itself root path other =
     (λ f. ap (λ o. unwrap_or o path) (cond-false _ _ _ f))
     (cases_Bool (bytes_eq (take n path) root))
 
+-- the path of the URI of a name
+pub uri-path : (root : Below) (name : List ℕ) → IsRoot root → All IsByte name
+    → path_of (uri_of root name) ≡ Some (path_below root.path name)
+uri-path root name is small = ⊎_elim
+    (λ t.
+    ap path_of (cond-true _ _ _ t)
+    ∙ ap (option_map percent_decode) (scheme-after (escaped name) (slash-first name t))
+    ∙ ap Some (decode-escaped name small ∙ sym (cond-true _ _ _ t)))
+    (λ f.
+    ap path_of (cond-false _ _ _ f) ∙ read-below root (escaped name) is
+    ∙ ap Some (ap (λ l. root.path ++ 47 ∷ l) (decode-escaped name small)
+    ∙ sym (cond-false _ _ _ f)))
+    (cases_Bool (begins_with_slash name))
+
+-- the name of the path of a name
+pub path-again : (root name : List ℕ)
+    → (begins_with_slash name ≡ true → IsBelow root name → ⊥)
+    → name_below root (path_below root name) ≡ name
+path-again root name other = ⊎_elim
+    (λ t. ap (name_below root) (cond-true _ _ _ t) ∙ name-itself root name (other t))
+    (λ f. ap (name_below root) (cond-false _ _ _ f) ∙ name-below root name)
+    (cases_Bool (begins_with_slash name))
+
 -- the name of the URI of a name
 pub names-again : (root : Below) (name : List ℕ) → IsRoot root → All IsByte name
     → (begins_with_slash name ≡ true → IsBelow root.path name → ⊥)
     → option_map (name_below root.path) (path_of (uri_of root name)) ≡ Some name
 names-again root name is small other =
-    let named = λ (uri : List ℕ). option_map (name_below root.path) (path_of uri) in
-    ⊎_elim
-    (λ t.
-    ap named (cond-true _ _ _ t)
-    ∙ ap (λ o. option_map (name_below root.path) (option_map percent_decode o))
-    (scheme-after (escaped name) (slash-first name t))
-    ∙ ap (λ l. Some (name_below root.path l)) (decode-escaped name small)
-    ∙ ap Some (name-itself root.path name (other t)))
-    (λ f.
-    ap named (cond-false _ _ _ f)
-    ∙ ap (option_map (name_below root.path)) (read-below root (escaped name) is)
-    ∙ ap (λ l. Some (name_below root.path (root.path ++ 47 ∷ l))) (decode-escaped name small)
-    ∙ ap Some (name-below root.path name))
-    (cases_Bool (begins_with_slash name))
+    ap (option_map (name_below root.path)) (uri-path root name is small)
+    ∙ ap Some (path-again root.path name other)

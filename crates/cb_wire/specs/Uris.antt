@@ -103,3 +103,7 @@ abbrev pub uri_of : Below → List ℕ → List ℕ
 uri_of root name =
     cond (begins_with_slash name) (codes "file://" ++ escaped name)
     (root.uri ++ slash ∷ escaped name)
+
+-- the path of a name: the name itself, or below the root
+abbrev pub path_below : (root name : List ℕ) → List ℕ
+path_below root name = cond (begins_with_slash name) name (root ++ slash ∷ name)

@@ -56,6 +56,7 @@ ghost use Rattle.cb_wire.specs.Uris.{
   name_below,
   of_folder,
   of_uri,
+  path_below,
   path_of,
   uri_of,
 };
@@ -111,10 +112,15 @@ pub fn roots_are()
     ensures uri { (uri path : List ℕ) → escaped_path uri ≡ Some path → IsRoot (of_uri uri path) }
 {}
 
-/// The name of the URI of a name is the name, unless it begins with a slash and lies below the
-/// root.
+/// The URI of a name names the file that has its path, and the name of that path is the name again,
+/// unless it begins with a slash and lies below the root.
 pub fn names_are_read_back()
-    ensures { (root : Below) (name : List ℕ) → IsRoot root → All (λ b. b < 256) name
+    ensures path { (root : Below) (name : List ℕ) → IsRoot root → All (λ b. b < 256) name
+        → path_of (uri_of root name) ≡ Some (path_below root.path name) }
+    ensures name { (root name : List ℕ)
+        → (begins_with_slash name ≡ true → IsBelow root name → ⊥)
+        → name_below root (path_below root name) ≡ name }
+    ensures uri { (root : Below) (name : List ℕ) → IsRoot root → All (λ b. b < 256) name
         → (begins_with_slash name ≡ true → IsBelow root.path name → ⊥)
         → option_map (name_below root.path) (path_of (uri_of root name)) ≡ Some name }
 {}

@@ -9,6 +9,7 @@ ghost use Rattle.cb_wire.specs.Uris.{
   escaped_path,
   of_folder,
   of_uri,
+  path_below,
   uri_of,
   without_slashes,
 };
@@ -86,6 +87,22 @@ impl Root {
             Some(name) => name,
             None => path,
         }
+    }
+
+    /// The path of the file of a name: the name itself, if it begins with a slash, or else below the
+    /// root.
+    pub fn path_of(&self, alloc: Global, name: &[u8]) -> Result<Vec<u8>, AllocError>
+        ensures { IfOk result (λ path. path.items ≡ path_below self.now.path name.now) }
+    {
+        let mut path = Vec::new(alloc);
+        if begins_with_slash(name) {
+            path.extend_from_slice(name)?;
+            return Ok(path);
+        }
+        path.extend_from_slice(self.path.as_slice())?;
+        path.push(b'/')?;
+        path.extend_from_slice(name)?;
+        Ok(path)
     }
 
     /// The URI of the root, as it is written.

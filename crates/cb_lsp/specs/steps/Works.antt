@@ -8,7 +8,11 @@ use Rattle.cb_lsp.specs.Documents.{Document, Reading, Kept, Oracle, Told, Work, 
 use Rattle.cb_lsp.specs.Documents.{document_of, if_open, text, text_unless, was_lost}
 use Rattle.cb_lsp.specs.steps.Noted.{keeps_present, with_noted}
 
--- what is decided where a file is given one text, and where a file event is taken
+-- what is decided where memory alone may be refused, once; where a file is given one text; and where
+-- a file event is taken
+abbrev pub only : Bool → Oracle
+only no_memory = record { refusals = no_memory ∷ []; found = [] }
+
 abbrev pub one_change : Bool → Reading → Oracle
 one_change no_text found = record { refusals = no_text ∷ []; found = found ∷ [] }
 

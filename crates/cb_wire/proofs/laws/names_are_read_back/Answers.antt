@@ -1,5 +1,11 @@
-use Rattle.cb_wire.proofs.Roots.{names-again}
+use Rattle.cb_wire.proofs.Roots.{names-again, path-again, uri-path}
 use Rattle.cb_wire.proofs.laws.names_are_read_back.Goals as goal
 
-pub returns : goal.returns
-returns c = names-again
+pub returns-clause-path : goal.returns-clause-path
+returns-clause-path c = uri-path
+
+pub returns-clause-name : goal.returns-clause-name
+returns-clause-name c = path-again
+
+pub returns-clause-uri : goal.returns-clause-uri
+returns-clause-uri c = names-again

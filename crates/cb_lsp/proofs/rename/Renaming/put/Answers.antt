@@ -13,11 +13,14 @@ use Rattle.cb_lsp.proofs.rename.Renaming.put.Goals as goal
 pub returns : goal.returns
 returns g c =
     let f = c.args.self.now in
+    let word = c.put_word.ensures in
     let at = c.place_of_position-place.ensures.value
-    ∙ ap (λ t. place f.asked.forms.encoding t c.args.position) c.bytes-text.ensures.value in
-    subst (λ o. Puts c.args.out.now c.put_word.new.out c.put_word.result (frame (value_text
-    (answer_reply (id_json c.args.id) (renamed_word (client_in f.asked.forms) (work_in f)
-    f.asked.name.now f.asked.source.now f.new_name.now o)))))
-    (c.renamable_at-word.ensures
-    ∙ ap (renamable_at f.asked.desk.now.timeline.present f.asked.source.now) at)
-    c.put_word.ensures
+    ∙ ap (λ t. place f.asked.forms.encoding t c.args.position) c.bytes-text.ensures.value in (
+      word.0,
+      subst (λ x. Puts c.args.out.now c.put_word.new.out c.put_word.result (frame (value_text
+          (answer_reply (id_json c.args.id) (renamed_word word.0 (client_in f.asked.forms)
+          (work_in f) f.asked.name.now f.asked.source.now f.new_name.now x)))))
+          (c.renamable_at-word.ensures
+          ∙ ap (renamable_at f.asked.desk.now.timeline.present f.asked.source.now) at)
+          word.1,
+    )

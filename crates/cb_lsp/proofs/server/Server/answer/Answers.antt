@@ -3,13 +3,14 @@ use Rattle.cb_wire.specs.Messages.{id_json}
 use Rattle.cb_lsp.specs.Messages.{Serving}
 use Rattle.cb_lsp.specs.Models.{asked_of}
 use Rattle.cb_lsp.specs.Questions.{in_file, incoming, outgoing, rename}
+use Rattle.cb_lsp.specs.steps.Works.{only}
 use Rattle.cb_lsp.proofs.Asked.{puts-asked, puts-symbols}
 use Rattle.cb_lsp.proofs.server.Server.answer.Goals as goal
 
 pub returns-in-InFile-clause-put : goal.returns-in-InFile-clause-put
 returns-in-InFile-clause-put g c = (
-  c.answer_at.ensures.0,
-  puts-asked c.args.self.now c.settle.new.self c.answer_at.ensures.0
+  only c.answer_at.ensures.0,
+  puts-asked c.args.self.now c.settle.new.self (only c.answer_at.ensures.0)
       (in_file c.in-InFile.uri.now c.in-InFile.question) (asked_of c.args.question)
       (id_json c.args.id) _ _ c.answer_at.result c.settle.ensures
       (ap asked_of (sym c.in-InFile.is)) c.answer_at.ensures.1,
@@ -17,7 +18,7 @@ returns-in-InFile-clause-put g c = (
 
 pub returns-in-WorkspaceSymbols-clause-put : goal.returns-in-WorkspaceSymbols-clause-put
 returns-in-WorkspaceSymbols-clause-put g c = (
-  false,
+  only false,
   puts-symbols c.args.self.now c.settle.new.self c.desk.result.now.timeline.present _
       c.in-WorkspaceSymbols.query.now c.as_bytes.result.now (asked_of c.args.question)
       (id_json c.args.id) _ _ c.put_session_symbols.result c.settle.ensures
@@ -28,8 +29,8 @@ returns-in-WorkspaceSymbols-clause-put g c = (
 
 pub returns-in-Incoming-clause-put : goal.returns-in-Incoming-clause-put
 returns-in-Incoming-clause-put g c = (
-  c.incoming_at.ensures.0,
-  puts-asked c.args.self.now c.settle.new.self c.incoming_at.ensures.0
+  only c.incoming_at.ensures.0,
+  puts-asked c.args.self.now c.settle.new.self (only c.incoming_at.ensures.0)
       (incoming c.in-Incoming.name.now c.in-Incoming.uri.now) (asked_of c.args.question)
       (id_json c.args.id) _ _ c.incoming_at.result c.settle.ensures
       (ap asked_of (sym c.in-Incoming.is)) c.incoming_at.ensures.1,
@@ -37,8 +38,8 @@ returns-in-Incoming-clause-put g c = (
 
 pub returns-in-Outgoing-clause-put : goal.returns-in-Outgoing-clause-put
 returns-in-Outgoing-clause-put g c = (
-  c.outgoing_at.ensures.0,
-  puts-asked c.args.self.now c.settle.new.self c.outgoing_at.ensures.0
+  only c.outgoing_at.ensures.0,
+  puts-asked c.args.self.now c.settle.new.self (only c.outgoing_at.ensures.0)
       (outgoing c.in-Outgoing.name.now c.in-Outgoing.uri.now c.in-Outgoing.position)
       (asked_of c.args.question) (id_json c.args.id) _ _ c.outgoing_at.result c.settle.ensures
       (ap asked_of (sym c.in-Outgoing.is)) c.outgoing_at.ensures.1,

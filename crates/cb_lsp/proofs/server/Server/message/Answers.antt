@@ -1,6 +1,6 @@
 use Rattle.std.proofs.Common.{sym, subst, refl, ap}
 use Rattle.cb_lsp.proofs.Answered.{does-nothing, on-ok}
-use Rattle.cb_lsp.proofs.Notices.{behind, quiet}
+use Rattle.cb_lsp.proofs.Notices.{quiet}
 use Rattle.cb_lsp.specs.Messages.{does}
 use Rattle.cb_lsp.specs.Models.{message_in}
 use Rattle.cb_lsp.specs.Bodies.{Does}
@@ -26,9 +26,8 @@ returns-in-Notification g c = (
 pub returns-in-Request : goal.returns-in-Request
 unfolding does
 returns-in-Request g c = (
-  behind c.request.ensures.0 quiet,
-  subst (λ m. Does (does (behind c.request.ensures.0 quiet)
-      c.args.self.now (message_in m))
+  c.request.ensures.0,
+  subst (λ m. Does (does c.request.ensures.0 c.args.self.now (message_in m))
       c.request.new.self c.args.out.now c.request.new.out c.request.result)
       (sym c.in-Request.is) c.request.ensures.1,
 )

@@ -1,10 +1,11 @@
-use Rattle.std.proofs.Common.{false, ◌∙◌, ap}
+use Rattle.std.proofs.Common.{true, false, ◌∙◌, ap}
 use Rattle.std.specs.Cow.{cow_slice_items}
 use Rattle.cb_wire.specs.Messages.{id_json}
 use Rattle.cb_wire.specs.Uris.{name_below, path_of}
 use Rattle.cb_lsp.specs.Messages.{Serving}
+use Rattle.cb_lsp.specs.steps.Works.{only}
 use Rattle.cb_lsp.proofs.Asked.{puts-renamed, puts-renamed-nowhere}
-use Rattle.cb_lsp.proofs.Notices.{no-path, path-found}
+use Rattle.cb_lsp.proofs.Notices.{behind, no-path, path-found}
 use Rattle.cb_lsp.proofs.server.Server.rename_at.Goals as goal
 
 pub returns-in-Ok-Some : goal.returns-in-Ok-Some
@@ -14,18 +15,23 @@ returns-in-Ok-Some g c =
     (c.in-Ok-Some.ensures ∙ ap path_of c.as_bytes.ensures.value) c.in-Ok-Some.field-0-is
     c.in-Ok-Some.path-is c.as_slice.ensures.value in
     let named = c.name-name.ensures
-    ∙ ap (λ (s : Serving). name_below s.client.root.path path) c.self.view_is in (
-      false,
-      puts-renamed c.args.self.now c.args.uri.now path c.name-name.result.now c.args.position
-          c.as_bytes-in-Ok-Some.result.now c.args.new_name.now (id_json c.args.id) _ _
-          c.rename_in.result found named c.as_bytes-in-Ok-Some.ensures.value c.rename_in.ensures,
+    ∙ ap (λ (s : Serving). name_below s.client.root.path path) c.self.view_is in
+    let renamed = c.rename_in.ensures in (
+      behind false renamed.0,
+      puts-renamed renamed.0 c.args.self.now c.args.uri.now path c.name-name.result.now
+          c.args.position c.as_bytes-in-Ok-Some.result.now c.args.new_name.now
+          (id_json c.args.id) _ _ c.rename_in.result found named
+          c.as_bytes-in-Ok-Some.ensures.value renamed.1,
     )
 
 pub returns-in-Ok-None : goal.returns-in-Ok-None
 returns-in-Ok-None g c =
     let none = no-path cow_slice_items _ c.args.uri.now
     (c.in-Ok-None.ensures ∙ ap path_of c.as_bytes.ensures.value) c.in-Ok-None.field-0-is in (
-      false,
+      only false,
       puts-renamed-nowhere c.args.self.now c.args.uri.now c.args.position c.args.new_name.now
           (id_json c.args.id) _ _ c.put_failure.result none c.put_failure.ensures,
     )
+
+pub returns-in-Err : goal.returns-in-Err
+returns-in-Err g c = (only true, c.put_refusal.ensures)

@@ -1,24 +1,25 @@
-use Rattle.std.proofs.Common.{false, ◌∙◌, ap, sym, refl}
+use Rattle.std.proofs.Common.{◌∙◌, ap, sym, refl}
 use Rattle.cb_wire.specs.Messages.{id_json}
 use Rattle.cb_lsp.specs.declared.server.Stage.TheVariants.{Down}
 use Rattle.cb_lsp.specs.Messages.{Serving}
 use Rattle.cb_lsp.specs.steps.Values.{seen}
 use Rattle.cb_lsp.proofs.Answered.{does-as}
+use Rattle.cb_lsp.proofs.Notices.{quiet}
 use Rattle.cb_lsp.proofs.Requests.{running-again, running-asked, running-down, running-unasked}
 use Rattle.cb_lsp.proofs.server.Server.run.Goals as goal
 
 pub returns-then-eq : goal.returns-then-eq
 returns-then-eq g c =
-    let is = running-again false c.args.self.now (id_json c.args.id) c.args.call.method.now
+    let is = running-again quiet c.args.self.now (id_json c.args.id) c.args.call.method.now
     (seen c.args.call.params) (sym c.eq.ensures ∙ c.if-eq.true) in
-    (false, does-as _ c.args.self.now _ _ _ _ _ is refl c.put_failure.ensures)
+    (quiet, does-as _ c.args.self.now _ _ _ _ _ is refl c.put_failure.ensures)
 
 pub returns-then-eq-2 : goal.returns-then-eq-2
 returns-then-eq-2 g c =
-    let is = running-down false c.args.self.now (id_json c.args.id) c.args.call.method.now
+    let is = running-down quiet c.args.self.now (id_json c.args.id) c.args.call.method.now
     (seen c.args.call.params) (sym c.eq.ensures ∙ c.if-eq.false)
     (sym c.eq-2.ensures ∙ c.if-eq-2.true) in (
-      false,
+      quiet,
       does-as _ _ _ _ _ _ _ is
           (ap (λ (s : Serving). record s { stage = Down }) c.self.view_is) c.put_null.ensures,
     )
@@ -35,7 +36,7 @@ returns-in-Ok g c =
 
 pub returns-in-Err : goal.returns-in-Err
 returns-in-Err g c =
-    let is = running-unasked false c.args.self.now (id_json c.args.id) c.args.call.method.now
+    let is = running-unasked quiet c.args.self.now (id_json c.args.id) c.args.call.method.now
     (seen c.args.call.params) _ (sym c.eq.ensures ∙ c.if-eq.false)
     (sym c.eq-2.ensures ∙ c.if-eq-2.false) c.in-Err.ensures in
-    (false, does-as _ c.args.self.now _ _ _ _ _ is refl c.put_unasked.ensures)
+    (quiet, does-as _ c.args.self.now _ _ _ _ _ is refl c.put_unasked.ensures)

@@ -1,0 +1,12 @@
+use Rattle.std.proofs.Common.{length}
+use Rattle.cb_lsp.specs.steps.References.{reached_left}
+use Rattle.cb_lsp.specs.steps.Renames.{work_in}
+use Rattle.cb_lsp.proofs.Unedited.{EditedSo}
+use Rattle.cb_lsp.proofs.rename.Renaming.first_unedited.Given as goal
+
+abbrev pub invariant-uses : goal.invariant-uses
+invariant-uses g l =
+    EditedSo (work_in l.fn.self) (reached_left l.fn.uses) (reached_left l.left) l.opens
+
+abbrev pub decreases-uses : goal.decreases-uses
+decreases-uses g l = length (reached_left l.left)
