@@ -88,10 +88,13 @@ fn is_kept(byte: u8) -> bool
         || byte == b'/'
 }
 
-/// Writes a path with escapes, as in a URI.
+/// Writes a path with escapes, as in a URI; as it is, where no byte takes more than one.
 pub fn put_escaped<W: Write>(out: &mut Sink<W>, path: &[u8]) -> Result<(), WriteFault>
     ensures { Puts out.old out.new result (escaped path.now) }
 {
+    if escaped_length(path) == path.len() as u128 {
+        return put_text(out, path);
+    }
     for byte in path {
         put_escaped_byte(out, *byte)?;
     }
