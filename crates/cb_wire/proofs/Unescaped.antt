@@ -1,9 +1,10 @@
 -- A text stays as it is where it grows by no escape.
-use Rattle.std.proofs.Common.{◌≡◌, ◌≤◌, ℕ, Bool, true, false, cond, List, [], ◌∷◌, ◌++◌, length}
+use Rattle.std.proofs.Common.{◌≡◌, ◌≤◌, ◌+◌, ◌*◌, not, ℕ, Bool, true, false, cond, List, [], ◌∷◌, ◌++◌, length}
 use Rattle.std.proofs.Common.{arith, ap₂, refl, length-append, ◌/◌, ◌%◌}
-use Rattle.std.specs.Prelude.{nat_lt}
+use Rattle.std.specs.Prelude.{count_by, nat_lt}
 use Rattle.std.specs.Char.{digit_char}
 use Rattle.std.specs.List.{flat_map}
+use Rattle.std.proofs.lemmas.List.Sums.{sum_by-cons}
 use Rattle.json.specs.Print.{escape, escape_byte as json_byte, escape_letter}
 use Rattle.percent_encoding.specs.Percent.{percent_encode_byte}
 use Rattle.cb_wire.specs.Uris.{escape_byte, escaped, is_kept}
@@ -53,6 +54,26 @@ in-path b = kept_or (is_kept b) (percent_encode_byte b) b (omega arith)
 pub same-json : (text : List ℕ) → length (escape text) ≡ length text → escape text ≡ text
 same-json = same json_byte in-json
 
--- in a URI
-pub same-path : (path : List ℕ) → length (escaped path) ≡ length path → escaped path ≡ path
-same-path = same escape_byte in-path
+-- ---- in a URI
+
+kept-grows : (t : Bool) (b : ℕ)
+    → length (cond t (b ∷ []) (percent_encode_byte b)) ≡ 1 + 2 * cond (not t) 1 0
+unfolding percent_encode_byte
+kept-grows true b = refl
+kept-grows false b = refl
+
+-- each escape takes two bytes more
+pub path-length : (path : List ℕ)
+    → length (escaped path) ≡ length path + 2 * count_by (λ b. not (is_kept b)) path
+path-length [] = refl
+path-length (b ∷ bs) =
+    omega (
+      arith,
+      length-append (escape_byte b) (escaped bs),
+      kept-grows (is_kept b) b,
+      path-length bs,
+      sum_by-cons (λ c. cond (not (is_kept c)) 1 0) b bs,
+    )
+
+pub same-path : (path : List ℕ) → count_by (λ b. not (is_kept b)) path ≡ 0 → escaped path ≡ path
+same-path path none = same escape_byte in-path path (omega (arith, path-length path, none))

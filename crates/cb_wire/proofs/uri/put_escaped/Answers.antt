@@ -19,8 +19,8 @@ loop-byte-preserved g c =
     PutsAll-element escape_byte _ _ _ _ c.loop-byte.byte-index _ c.loop-byte-test.true
     c.loop-byte.invariant c.in_ok-put_escaped_byte.ensures
 
-pub returns-then-escaped_length-path : goal.returns-then-escaped_length-path
-returns-then-escaped_length-path g c =
+pub returns-then-escapes-eq0 : goal.returns-then-escapes-eq0
+returns-then-escapes-eq0 g c =
     subst (Puts c.args.out.now c.put_text.new.out c.put_text.result)
-    (sym (same-path c.args.path.now
-    (sym c.escaped_length.ensures.value ∙ c.if-escaped_length-path.true))) c.put_text.ensures
+    (sym (same-path c.args.path.now (sym c.escapes.ensures.value ∙ c.if-escapes-eq0.true)))
+    c.put_text.ensures
