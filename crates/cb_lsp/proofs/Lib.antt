@@ -44,6 +44,7 @@ pub mod Ranged
 pub mod Reaches
 pub mod RenameSteps
 pub mod Requests
+pub mod SameLines
 pub mod Synced
 pub mod TagsByPlace
 pub mod Turned

@@ -1,6 +1,6 @@
 -- A line that was gone through up to a character.
 use Rattle.std.proofs.Common.{◌≡◌, ◌∙◌, ◌≤◌, ◌+◌, ◌-◌, ℕ, zero, suc, arith, ap, refl, sym, subst}
-use Rattle.std.proofs.Common.{List, [], ◌∷◌, drop, length, length-drop, inl, inr}
+use Rattle.std.proofs.Common.{List, [], ◌∷◌, None, drop, length, length-drop, inl, inr}
 use Rattle.std.proofs.lemmas.Bool.Decides.{leb_tells}
 use Rattle.cb_wire.specs.declared.units.Encoding.{Encoding}
 use Rattle.cb_wire.specs.Units.{column, first, place_in_line}
@@ -109,9 +109,9 @@ marked e line rest b u place c v mark is units bytes =
 
 -- columns of no line
 pub no-line : (e : Encoding) (text : List ℕ) (c : LineColumns)
-    → c ≡ record { encoding = e; line = [] } → AreOfLine e text 0 0 c
+    → c ≡ record { encoding = e; line = [] } → AreOfLine e text 0 None c
 no-line e text c is = record {
   encoding = ap (λ (l : LineColumns). l.encoding) is;
   shown = ap (λ (l : LineColumns). l.line) is;
-  at_end = measured-end (λ k. k.bytes) (λ k. k.units) e [] 0 refl;
+  at_end = tt;
 }

@@ -46,6 +46,7 @@ ghost use Rattle.cb_wire.specs.Texts.{frame};
 ghost use Rattle.cb_wire.specs.Values.{value_text};
 
 use crate::answers::put_list;
+use crate::caller::CallerPlaces;
 use crate::location::{Forms, Located};
 use crate::reach::Reached;
 use crate::written::{put_null, put_refusal};
@@ -194,7 +195,7 @@ fn kind_at(defs: &[Def], place: u32) -> Kind
 }
 
 /// The same in a file.
-fn kind_in(desk: &Desk, file: &[u8], place: u32) -> Kind
+pub(crate) fn kind_in(desk: &Desk, file: &[u8], place: u32) -> Kind
     ensures { result ≡ kind_in desk.now.timeline.present file.now place }
 {
     match desk.scanned(file) {
@@ -225,23 +226,23 @@ fn first_calls<'a, 'p>(rows: &'p [CallRow<'a>]) -> Option<(CallRow<'a>, &'p [Cal
 /// Who calls: calls by their callers, those of each one together.
 #[derive(Drop)]
 pub(crate) struct Incoming<'a, 'p> {
-    pub(crate) forms: Forms<'a>,
-    pub(crate) desk: &'a Desk,
-    pub(crate) rows: &'p [CallRow<'a>],
+    callers: CallerPlaces<'a>,
+    rows: &'p [CallRow<'a>],
     /// How many of them were given.
-    pub(crate) given: usize,
+    given: usize,
 }
 
 impl<'a, 'p> Incoming<'a, 'p> {
     /// The caller of a call.
-    fn caller(&self, row: &CallRow<'a>) -> CallItem<'a>
-        ensures { call_item_tree result ≡ caller_item (client_in self.now.forms)
-            self.now.desk.now.timeline.present (called_in row.now) }
+    fn caller(&mut self, row: &CallRow<'a>) -> CallItem<'a>
+        ensures caller { call_item_tree result ≡ caller_item (client_in self.old.callers.forms)
+            self.old.callers.desk.now.timeline.present (called_in row.now) }
+        ensures forms { self.new.callers.forms ≡ self.old.callers.forms }
+        ensures desk { self.new.callers.desk.now ≡ self.old.callers.desk.now }
+        ensures rows { self.new.rows ≡ self.old.rows }
+        ensures given { self.new.given ≡ self.old.given }
     {
-        let (file, place) = (row.spot.file, row.place());
-        let kind = kind_in(self.desk, file, place);
-        let mut places = Located::new(self.forms, self.desk);
-        places.item(row.caller(), kind, file, place)
+        self.callers.item(row.caller(), row.spot.file, row.place())
     }
 }
 
@@ -252,8 +253,7 @@ impl<'a, 'p> Elements for Incoming<'a, 'p> {
 
     fn again(&self) -> Incoming<'a, 'p> {
         Incoming {
-            forms: self.forms,
-            desk: self.desk,
+            callers: CallerPlaces::new(self.callers.forms, self.callers.desk),
             rows: self.rows,
             given: self.given,
         }
@@ -264,10 +264,11 @@ impl<'a, 'p> Elements for Incoming<'a, 'p> {
             return None;
         }
         let (first, calls) = first_calls(self.rows.split_at(self.given).1)?;
+        let item = self.caller(&first);
         self.given += calls.len();
         Some(Calls {
             side: Side::From,
-            item: self.caller(&first),
+            item,
             calls,
         })
     }
@@ -295,8 +296,7 @@ pub(crate) fn put_incoming<W: Write>(
             out,
             id,
             Incoming {
-                forms,
-                desk,
+                callers: CallerPlaces::new(forms, desk),
                 rows: rows.as_slice(),
                 given: 0,
             },

@@ -56,15 +56,16 @@ impl<'a> Columns<'a> {
     }
 }
 
-/// Positions in a source. Places that come one behind the other go through each line twice.
+/// Positions in a source. Places that come one behind the other go through each line once, and once
+/// more where its end is asked for.
 #[derive(Drop)]
 pub(crate) struct Positions<'a> {
     encoding: Encoding,
     source: &'a Source,
     /// The line of the last place, from 1.
     line: u32,
-    /// The column of its end.
-    width: usize,
+    /// The column of its end, if it was asked for.
+    width: Option<usize>,
     columns: Columns<'a>,
 }
 
@@ -80,7 +81,9 @@ impl<'a> Model for Positions<'a> {
 
 impl<'a> Positions<'a> {
     ghost use Rattle.std.specs.Prelude.{◌≤◌, length};
+    ghost use Rattle.cb_scan.specs.Lines.{line_of, line_text};
     ghost use Rattle.cb_wire.specs.Positions.{position};
+    ghost use Rattle.cb_wire.specs.Units.{column};
     ghost use Rattle.cb_lsp.specs.Places.{line_range, range_of};
 
     /// None yet.
@@ -92,7 +95,7 @@ impl<'a> Positions<'a> {
             encoding,
             source,
             line: 0,
-            width: 0,
+            width: None,
             columns: Columns::new(encoding, b""),
         }
     }
@@ -111,6 +114,22 @@ impl<'a> Positions<'a> {
         self.encoding
     }
 
+    /// The line of a place: the last one, where the place is on it, or else by the table of lines.
+    fn line_of(&self, place: u32) -> u32
+        ensures { result ≡ line_of self.now.text place }
+    {
+        let line = self.line;
+        if line > 0
+            && line < u32::MAX
+            && self.source.line_start(line) <= place
+            && place < self.source.line_start(line + 1)
+        {
+            line
+        } else {
+            self.source.line_of(place)
+        }
+    }
+
     /// Goes to a line.
     fn go_to(&mut self, line: u32)
         ensures encoding { self.new.encoding ≡ self.old.encoding }
@@ -120,8 +139,25 @@ impl<'a> Positions<'a> {
         if self.line != line {
             let shown = self.source.shown_line(line);
             self.line = line;
-            self.width = column_of_place(self.encoding, shown, shown.len());
+            self.width = None;
             self.columns = Columns::new(self.encoding, shown);
+        }
+    }
+
+    /// The column of the end of the line.
+    fn width(&mut self) -> usize
+        ensures width { result ≡ column self.old.encoding (line_text self.old.text self.old.line)
+            (length (line_text self.old.text self.old.line)) }
+        ensures same { self.new ≡ self.old }
+    {
+        match self.width {
+            Some(width) => width,
+            None => {
+                let shown = self.source.shown_line(self.line);
+                let width = column_of_place(self.encoding, shown, shown.len());
+                self.width = Some(width);
+                width
+            }
         }
     }
 
@@ -131,9 +167,7 @@ impl<'a> Positions<'a> {
         ensures encoding { self.new.encoding ≡ self.old.encoding }
         ensures text { self.new.text ≡ self.old.text }
     {
-        let line = self
-            .source
-            .line_of(place.min(self.source.bytes().len()) as u32);
+        let line = self.line_of(place.min(self.source.bytes().len()) as u32);
         let start = self.source.line_start(line) as usize;
         self.go_to(line);
         Position {
@@ -159,7 +193,7 @@ impl<'a> Positions<'a> {
         ensures encoding { self.new.encoding ≡ self.old.encoding }
         ensures text { self.new.text ≡ self.old.text }
     {
-        let line = self.source.line_of(place);
+        let line = self.line_of(place);
         self.go_to(line);
         let row = line as usize - 1;
         Range {
@@ -169,7 +203,7 @@ impl<'a> Positions<'a> {
             },
             end: Position {
                 line: row,
-                character: self.width,
+                character: self.width(),
             },
         }
     }

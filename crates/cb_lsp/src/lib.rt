@@ -8,6 +8,7 @@
 
 mod answers;
 mod body;
+mod caller;
 mod callers;
 mod calls;
 mod change;

@@ -1,4 +1,5 @@
 pub mod Arrays
+pub mod Ascii
 pub mod CallItems
 pub mod CellColumns
 pub mod Cells
@@ -25,5 +26,6 @@ pub mod Roots
 pub mod SameFronts
 pub mod Symbols
 pub mod Trees
+pub mod Unescaped
 pub mod Watchers
 pub mod Welcomes

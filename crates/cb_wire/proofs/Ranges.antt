@@ -1,5 +1,5 @@
 -- The texts of positions and ranges.
-use Rattle.std.proofs.Common.{◌≡◌, ◌+◌, ◌++◌, sym, ap, ◌∙◌, arith, length, length-append, decimal}
+use Rattle.std.proofs.Common.{◌≡◌, ◌+◌, ◌++◌, ℕ, List, sym, ap, ◌∙◌, arith, length, length-append, decimal}
 use Rattle.std.specs.Prelude.{codes}
 use Rattle.json.specs.Print.{escape_byte}
 use Rattle.cb_wire.specs.declared.position.Position.{Position}
@@ -48,3 +48,15 @@ range-length r =
       length-append start (codes ",\"end\":" ++ (end ++ codes "}")),
       length-append end (codes "}"),
     )
+
+-- a range by the digits of its four numbers
+abbrev pub range_by : (a b c d : List ℕ) → List ℕ
+range_by a b c d =
+    codes "{\"start\":{\"line\":" ++ (a ++ (codes ",\"character\":" ++ (b
+    ++ (codes "},\"end\":{\"line\":" ++ (c ++ (codes ",\"character\":" ++ (d ++ codes "}}")))))))
+
+pub range-numbers : (r : Range) → value_text (range_tree r)
+    ≡ range_by (decimal r.start.line) (decimal r.start.character) (decimal r.end.line)
+    (decimal r.end.character)
+unfolding escape_byte
+range-numbers r = value_text-is (range_tree r)

@@ -2,9 +2,10 @@
 use Rattle.std.proofs.Common.{◌≡◌, ℕ, zero, suc, ◌<◌, ◌≤◌, List, [], ◌∷◌, ◌++◌, length}
 use Rattle.std.proofs.Common.{drop, Option, Some, None, refl, sym, ap, ◌∙◌, subst, arith}
 use Rattle.std.proofs.Common.{append_assoc, append-nil, length-drop}
+use Rattle.std.specs.Prelude.{slice_index, IsAscii}
 use Rattle.std.proofs.lemmas.Grind.{flat_map-append}
 use Rattle.bstr.specs.Utf8.{decoded}
-use Rattle.bstr.proofs.lemmas.PieceLemmas.{piece-bounds}
+use Rattle.bstr.proofs.lemmas.PieceLemmas.{piece-bounds, value-1}
 use Rattle.json.specs.Print.{escape, escape_byte}
 use Rattle.cb_tags.specs.Writers.{Writer}
 use Rattle.cb_tags.specs.Writing.{PutsAll, PutsPrefix}
@@ -55,6 +56,18 @@ pub readable-nil : (bytes : List ℕ) → length bytes ≡ 0 → readable bytes 
 unfolding readable_from
 readable-nil [] p = refl
 readable-nil (b ∷ rest) p = absurd (omega arith)
+
+-- ASCII reads as it is
+pub ascii-reads : (bytes : List ℕ) → IsAscii bytes → readable bytes ≡ bytes
+ascii-reads [] low = readable-nil [] refl
+ascii-reads (b ∷ rest) low =
+    let bytes = b ∷ rest in
+    let one = value-1 (length bytes) (slice_index bytes 0) (slice_index bytes 1)
+    (slice_index bytes 2) (slice_index bytes 3) (omega arith, low 0) in
+    readable-step bytes (omega arith)
+    ∙ ap (λ d. sequence_text d.char d.size bytes
+    ++ readable (drop (sequence_size d.char d.size) bytes)) one
+    ∙ ap (λ l. b ∷ l) (ascii-reads rest (λ i. low (suc i)))
 
 -- the text of the first sequence, and what is left
 module _ (bytes rest text : List ℕ) (size : ℕ) (some : 0 < length bytes)

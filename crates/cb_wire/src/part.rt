@@ -87,14 +87,30 @@ fn put_byte<W: Write>(out: &mut Sink<W>, byte: u8) -> Result<(), WriteFault>
     }
 }
 
-/// Writes UTF-8 inside a string of JSON.
-pub(crate) fn put_json<W: Write>(out: &mut Sink<W>, text: &[u8]) -> Result<(), WriteFault>
+/// Writes UTF-8 inside a string of JSON, where it takes so many bytes: as it is, where no byte takes
+/// more than one.
+pub(crate) fn put_sized<W: Write>(
+    out: &mut Sink<W>,
+    text: &[u8],
+    size: u128,
+) -> Result<(), WriteFault>
+    requires { size ≡ length (escape text.now) }
     ensures { Puts out.old out.new result (escape text.now) }
 {
+    if size == text.len() as u128 {
+        return put_text(out, text);
+    }
     for byte in text {
         put_byte(out, *byte)?;
     }
     Ok(())
+}
+
+/// Writes UTF-8 inside a string of JSON.
+pub(crate) fn put_json<W: Write>(out: &mut Sink<W>, text: &[u8]) -> Result<(), WriteFault>
+    ensures { Puts out.old out.new result (escape text.now) }
+{
+    put_sized(out, text, json_length(text))
 }
 
 /// How many bytes a byte takes inside a string of JSON.
@@ -143,6 +159,9 @@ fn sequence(bytes: &[u8]) -> (&[u8], usize)
 fn put_source<W: Write>(out: &mut Sink<W>, bytes: &[u8]) -> Result<(), WriteFault>
     ensures { Puts out.old out.new result (escape (readable bytes.now)) }
 {
+    if bytes.is_ascii() {
+        return put_json(out, bytes);
+    }
     let mut rest = bytes;
     'sequences: while rest.len() > 0 {
         let (text, size) = sequence(rest);
@@ -157,6 +176,9 @@ fn source_length(bytes: &[u8]) -> u128
     ensures value { result ≡ length (escape (readable bytes.now)) }
     ensures few { result ≤ 18 * length bytes.now }
 {
+    if bytes.is_ascii() {
+        return json_length(bytes);
+    }
     let mut rest = bytes;
     let mut total = 0u128;
     'sequences: while rest.len() > 0 {

@@ -1,8 +1,9 @@
 //! Positions in a text.
-ghost use Rattle.std.specs.Prelude.{◌≡◌, ◌≤◌, ◌+◌, length, take};
+ghost use Rattle.std.specs.Prelude.{◌≡◌, ◌≤◌, ◌+◌, length};
 ghost use Rattle.bstr.specs.Text.{without_terminator};
 ghost use Rattle.cb_wire.specs.Positions.{line_start, place, position, shown_line};
 
+use crate::units::before;
 use crate::{Encoding, column_of_place, place_of_column};
 use bstr::ByteSlice;
 
@@ -49,17 +50,6 @@ pub fn line_at(text: &[u8], line: usize) -> (usize, &[u8])
         start += found.len();
     }
     (start, b"")
-}
-
-/// The bytes before a place.
-fn before(text: &[u8], place: usize) -> &[u8]
-    ensures { result.now ≡ take place text.now }
-{
-    if place < text.len() {
-        text.split_at(place).0
-    } else {
-        text
-    }
 }
 
 /// The position of a place in a text. It takes time linear in the text.

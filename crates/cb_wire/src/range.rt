@@ -25,31 +25,6 @@ pub(crate) fn number_length(number: usize) -> u128
     digits.format(number).len() as u128
 }
 
-/// Writes a text and a position.
-fn put_position<W: Write>(
-    out: &mut Sink<W>,
-    before: &[u8],
-    position: Position,
-) -> Result<(), WriteFault>
-    ensures { Puts out.old out.new result
-        (before.now ++ value_text (position_tree position)) }
-{
-    let (mut line, mut character) = (Buffer::new(), Buffer::new());
-    let line = line.format(position.line).as_bytes();
-    let character = character.format(position.character).as_bytes();
-    put_texts(
-        out,
-        &[
-            before,
-            b"{\"line\":",
-            line,
-            b",\"character\":",
-            character,
-            b"}",
-        ],
-    )
-}
-
 /// How many bytes a position takes.
 fn position_length(position: Position) -> u128
     ensures value { result ≡ length (value_text (position_tree position)) }
@@ -62,9 +37,26 @@ fn position_length(position: Position) -> u128
 pub(crate) fn put_range<W: Write>(out: &mut Sink<W>, range: Range) -> Result<(), WriteFault>
     ensures { Puts out.old out.new result (value_text (range_tree range)) }
 {
-    put_position(out, b"{\"start\":", range.start)?;
-    put_position(out, b",\"end\":", range.end)?;
-    put_text(out, b"}")
+    let (mut first_line, mut first_character) = (Buffer::new(), Buffer::new());
+    let (mut last_line, mut last_character) = (Buffer::new(), Buffer::new());
+    let first_line = first_line.format(range.start.line).as_bytes();
+    let first_character = first_character.format(range.start.character).as_bytes();
+    let last_line = last_line.format(range.end.line).as_bytes();
+    let last_character = last_character.format(range.end.character).as_bytes();
+    put_texts(
+        out,
+        &[
+            b"{\"start\":{\"line\":",
+            first_line,
+            b",\"character\":",
+            first_character,
+            b"},\"end\":{\"line\":",
+            last_line,
+            b",\"character\":",
+            last_character,
+            b"}}",
+        ],
+    )
 }
 
 /// How many bytes a range takes.

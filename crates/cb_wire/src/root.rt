@@ -14,7 +14,7 @@ ghost use Rattle.cb_wire.specs.Uris.{
   without_slashes,
 };
 
-use crate::part::{json_length, put_json};
+use crate::part::{json_length, put_json, put_sized};
 use crate::uri::{
     append_escaped, begins_with_slash, below, escaped_length, escaped_path, last_slashes,
     put_escaped,
@@ -30,14 +30,21 @@ use std::marker::Model;
 pub struct Root {
     path: Vec<u8>,
     uri: Vec<u8>,
+    /// How many bytes the URI takes inside a string of JSON.
+    inside: u128,
 }
 
 impl Model for Root {
+    ghost use Rattle.std.specs.Prelude.{◌≡◌, ◌<◌, ◌^◌, length};
+    ghost use Rattle.json.specs.Print.{escape};
     ghost use Rattle.cb_wire.specs.Uris.{Below};
 
     ghost Value = { Below };
 
     ghost view = { λ root. record { path = root.path.items; uri = root.uri.items } };
+
+    ghost invariant = { λ root.
+        (root.inside ≡ length (escape root.uri.items)) × (root.inside < 2 ^ 67) };
 }
 
 /// A text without its last bytes.
@@ -60,7 +67,8 @@ impl Root {
         let mut uri = Vec::new(alloc);
         uri.extend_from_slice(b"file://")?;
         append_escaped(&mut uri, folder)?;
-        Ok(Root { path, uri })
+        let inside = json_length(uri.as_slice());
+        Ok(Root { path, uri, inside })
     }
 
     /// The root that a file URI names; `None` for any other text.
@@ -76,7 +84,12 @@ impl Root {
         percent_decode(without(slashes, escaped)).append_to(&mut path)?;
         let mut text = Vec::new(alloc);
         text.extend_from_slice(without(slashes, uri))?;
-        Ok(Some(Root { path, uri: text }))
+        let inside = json_length(text.as_slice());
+        Ok(Some(Root {
+            path,
+            uri: text,
+            inside,
+        }))
     }
 
     /// The name of the file at a path: the path below the root, or else the whole path.
@@ -112,15 +125,19 @@ impl Root {
         self.uri.as_slice()
     }
 
-    /// What stands before a name in its URI.
-    fn front(&self, name: &[u8]) -> (&[u8], &[u8])
-        ensures { result.0.now ++ (result.1.now ++ escaped name.now)
+    /// What stands before a name in its URI: a text, how many bytes it takes inside a string of
+    /// JSON, and a slash or nothing.
+    #[tactic(auto, unfolding(json::specs::Print::escape_byte))]
+    fn front(&self, name: &[u8]) -> (&[u8], u128, &[u8])
+        ensures uri { result.0.now ++ (result.2.now ++ escaped name.now)
             ≡ uri_of self.now name.now }
+        ensures size { result.1 ≡ length (escape result.0.now) }
+        ensures few { result.1 < 2 ^ 67 }
     {
         if begins_with_slash(name) {
-            (b"file://", b"")
+            (b"file://", 7, b"")
         } else {
-            (self.uri.as_slice(), b"/")
+            (self.uri.as_slice(), self.inside, b"/")
         }
     }
 
@@ -128,7 +145,7 @@ impl Root {
     pub fn put_uri<W: Write>(&self, out: &mut Sink<W>, name: &[u8]) -> Result<(), WriteFault>
         ensures { Puts out.old out.new result (uri_of self.now name.now) }
     {
-        let (front, slash) = self.front(name);
+        let (front, _size, slash) = self.front(name);
         put_texts(out, &[front, slash])?;
         put_escaped(out, name)
     }
@@ -141,8 +158,8 @@ impl Root {
     ) -> Result<(), WriteFault>
         ensures { Puts out.old out.new result (escape (uri_of self.now name.now)) }
     {
-        let (front, slash) = self.front(name);
-        put_json(out, front)?;
+        let (front, size, slash) = self.front(name);
+        put_sized(out, front, size)?;
         put_json(out, slash)?;
         put_escaped(out, name)
     }
@@ -152,7 +169,7 @@ impl Root {
         ensures value { result ≡ length (escape (uri_of self.now name.now)) }
         ensures few { result < 2 ^ 69 }
     {
-        let (front, slash) = self.front(name);
-        json_length(front) + json_length(slash) + escaped_length(name)
+        let (_front, size, slash) = self.front(name);
+        size + json_length(slash) + escaped_length(name)
     }
 }

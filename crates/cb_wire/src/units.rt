@@ -1,5 +1,5 @@
 //! Columns of a line.
-ghost use Rattle.std.specs.Prelude.{◌≡◌, ◌≤◌, ◌<◌, ◌==◌, cond, length, IfNone, IfSome};
+ghost use Rattle.std.specs.Prelude.{◌≡◌, ◌≤◌, ◌<◌, ◌==◌, cond, length, take, IfNone, IfSome};
 ghost use Rattle.cb_wire.specs.Units.{column, first, place_in_line};
 
 use bstr::decode_utf8;
@@ -57,11 +57,27 @@ fn first(encoding: Encoding, line: &[u8]) -> Option<Character>
     Some(front(encoding, line))
 }
 
-/// The column of a place in a line.
+/// The bytes before a place.
+pub(crate) fn before(text: &[u8], place: usize) -> &[u8]
+    ensures value { result.now ≡ take place text.now }
+    ensures within { length result.now ≤ length text.now }
+{
+    if place < text.len() {
+        text.split_at(place).0
+    } else {
+        text
+    }
+}
+
+/// The column of a place in a line. Each byte of ASCII is a unit.
 pub fn column_of_place(encoding: Encoding, line: &[u8], place: usize) -> usize
     ensures value { result ≡ column encoding line.now place }
     ensures within { result ≤ length line.now }
 {
+    let front = before(line, place);
+    if front.is_ascii() {
+        return front.len();
+    }
     let mut rest = line;
     let mut left = place;
     let mut units = 0;
@@ -76,11 +92,15 @@ pub fn column_of_place(encoding: Encoding, line: &[u8], place: usize) -> usize
     units
 }
 
-/// The place of a column in a line.
+/// The place of a column in a line. Each byte of ASCII is a unit.
 pub fn place_of_column(encoding: Encoding, line: &[u8], column: usize) -> usize
     ensures value { result ≡ place_in_line encoding line.now column }
     ensures within { result ≤ length line.now }
 {
+    let start = before(line, column);
+    if start.is_ascii() {
+        return start.len();
+    }
     let mut rest = line;
     let mut left = column;
     let mut bytes = 0;

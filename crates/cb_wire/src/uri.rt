@@ -1,5 +1,5 @@
 //! File URIs, and the names of files below a root.
-ghost use Rattle.std.specs.Prelude.{◌≡◌, ◌++◌, ◌-◌, ◌*◌, ◌≤◌, IfOk, IfSome, length, take};
+ghost use Rattle.std.specs.Prelude.{◌≡◌, ◌++◌, ◌-◌, ◌*◌, ◌≤◌, IfOk, IfSome, count_by, length, not, take};
 ghost use Rattle.std.specs.Option.{option_copied};
 ghost use Rattle.std.specs.Cow.{cow_slice_items};
 ghost use Rattle.std.specs.Option.{option_map};
@@ -88,10 +88,13 @@ fn is_kept(byte: u8) -> bool
         || byte == b'/'
 }
 
-/// Writes a path with escapes, as in a URI.
+/// Writes a path with escapes, as in a URI; at once, where it has none.
 pub fn put_escaped<W: Write>(out: &mut Sink<W>, path: &[u8]) -> Result<(), WriteFault>
     ensures { Puts out.old out.new result (escaped path.now) }
 {
+    if escapes(path) == 0 {
+        return put_text(out, path);
+    }
     for byte in path {
         put_escaped_byte(out, *byte)?;
     }
@@ -109,13 +112,12 @@ fn put_escaped_byte<W: Write>(out: &mut Sink<W>, byte: u8) -> Result<(), WriteFa
     }
 }
 
-/// How many bytes a byte of a path takes.
-#[tactic(auto, unfolding(percent_encoding::specs::Percent::percent_encode_byte))]
-fn escaped_byte_length(byte: u8) -> u128
-    ensures value { result ≡ length (escape_byte byte) }
-    ensures few { result ≤ 3 }
+/// How many bytes of a path have an escape.
+fn escapes(path: &[u8]) -> usize
+    ensures value { result ≡ count_by (λ b. not (is_kept b)) path.now }
+    ensures within { result ≤ length path.now }
 {
-    if is_kept(byte) { 1 } else { 3 }
+    path.iter().filter(|byte| !is_kept(**byte)).count()
 }
 
 /// How many bytes a path takes with escapes.
@@ -123,11 +125,7 @@ pub(crate) fn escaped_length(path: &[u8]) -> u128
     ensures value { result ≡ length (escaped path.now) }
     ensures few { result ≤ 3 * length path.now }
 {
-    let mut total = 0u128;
-    for byte in path {
-        total += escaped_byte_length(*byte);
-    }
-    total
+    path.len() as u128 + 2 * escapes(path) as u128
 }
 
 /// A path with escapes, behind a text.

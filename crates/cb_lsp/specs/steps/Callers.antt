@@ -32,5 +32,6 @@ kind_first (d ∷ ds) place = if d.name.start == place then d.kind else kind.Fun
 -- the groups that are left
 abbrev pub incoming_left : Incoming → List (List ℕ)
 incoming_left i =
-    map (λ g. value_text (caller_calls (client_in i.forms) i.desk.now.timeline.present g))
+    let world = i.callers.desk.now.timeline.present in
+    map (λ g. value_text (caller_calls (client_in i.callers.forms) world g))
     (cut_by_caller (drop i.given (called_rows i.rows.now)))

@@ -30,7 +30,8 @@ returns-in-Ok g c =
     let client = client_in c.args.forms in
     let w = c.args.desk.now.timeline.present in
     let told = caller_calls client w in
-    let groups = cut_by_caller (called_rows c.as_slice.result.now) in (
+    let groups = cut_by_caller (called_rows c.as_slice.result.now) in
+    let same = c.new.ensures in (
       false,
       subst (λ j. Puts c.args.out.now c.put_list.new.out c.put_list.result
           (frame (value_text (result_unless false (id_json c.args.id) j))))
@@ -40,5 +41,7 @@ returns-in-Ok g c =
           (frame (value_text (result_unless false (id_json c.args.id)
           (list_of (map told (cut_by_caller cs)))))))
           (ap called_rows c.as_slice.ensures.value ∙ c.in-Ok.ensures)
-          (c.put_list.ensures (map told groups) (map-map value_text told groups))),
+          (c.put_list.ensures (map told groups)
+          ((λ k. map (λ g. value_text (caller_calls (client_in (same.forms k))
+          (same.desk k).timeline.present g)) groups) ∙ map-map value_text told groups))),
     )

@@ -1,7 +1,9 @@
-use Rattle.std.proofs.Common.{arith, ap, length, length-append}
+use Rattle.std.proofs.Common.{◌∙◌, arith, ap, length, length-append, subst, sym}
+use Rattle.std.specs.Bool.{MatchBool}
+use Rattle.std.specs.Str.{IsAscii, IsNotAscii}
 use Rattle.json.specs.Print.{escape}
 use Rattle.cb_wire.specs.Texts.{readable}
-use Rattle.cb_wire.proofs.Readable.{escape-step, readable-nil}
+use Rattle.cb_wire.proofs.Readable.{ascii-reads, escape-step, readable-nil}
 use Rattle.cb_wire.proofs.part.source_length.Goals as goal
 
 pub sequences-preserved : goal.sequences-preserved
@@ -39,3 +41,11 @@ returns-clause-value c =
       c.sequences.invariant.value,
       ap (λ l. length (escape l)) (readable-nil left (omega (arith, c.sequences-test.false))),
     )
+
+pub returns-then-is_ascii-clause-value : goal.returns-then-is_ascii-clause-value
+returns-then-is_ascii-clause-value c =
+    let low : IsAscii c.args.bytes.now =
+    subst (λ b. MatchBool b (IsAscii c.args.bytes.now) (IsNotAscii c.args.bytes.now))
+    c.if-is_ascii.true c.is_ascii.ensures.cases in
+    c.json_length.ensures.value
+    ∙ ap (λ t. length (escape t)) (sym (ascii-reads c.args.bytes.now low))

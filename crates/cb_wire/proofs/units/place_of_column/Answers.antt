@@ -1,4 +1,7 @@
-use Rattle.std.proofs.Common.{arith}
+use Rattle.std.proofs.Common.{arith, subst}
+use Rattle.std.specs.Bool.{MatchBool}
+use Rattle.std.specs.Str.{IsAscii, IsNotAscii}
+use Rattle.cb_wire.proofs.Ascii.{ascii-place}
 use Rattle.cb_wire.proofs.Fitting.{measured-end, measured-stop, measured-step}
 use Rattle.cb_wire.proofs.units.place_of_column.Goals as goal
 
@@ -26,3 +29,10 @@ characters-preserved c =
       value = omega (arith, more, c.characters.invariant.value);
       within = omega (arith, c.split_at.ensures.back_len, c.in-Some.ensures.units);
     }
+
+pub returns-then-is_ascii-clause-value : goal.returns-then-is_ascii-clause-value
+returns-then-is_ascii-clause-value c =
+    let start = c.before-start.result.now in
+    ascii-place c.args.encoding c.args.line.now start c.args.column c.before-start.ensures.value
+    (subst (λ b. MatchBool b (IsAscii start) (IsNotAscii start)) c.if-is_ascii.true
+    c.is_ascii.ensures.cases)

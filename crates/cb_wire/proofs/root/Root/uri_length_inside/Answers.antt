@@ -6,8 +6,9 @@ pub returns-clause-value : goal.returns-clause-value
 returns-clause-value c =
     omega (
       arith,
-      escape-uri-length c.front.result.0.now c.front.result.1.now c.args.name.now _ c.front.ensures,
+      escape-uri-length c.front-size.result.0.now c.front-size.result.2.now c.args.name.now _
+          c.front-size.ensures.uri,
+      c.front-size.ensures.size,
       c.json_length.ensures.value,
-      c.json_length-2.ensures.value,
       c.escaped_length.ensures.value,
     )
