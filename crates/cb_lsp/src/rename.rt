@@ -218,12 +218,7 @@ impl<'a> Renaming<'a> {
     }
 
     /// Why a file is not edited. One that is not open is read again.
-    fn unedited<D: Disk>(
-        &self,
-        alloc: Global,
-        disk: &D,
-        file: &'a [u8],
-    ) -> Option<Unedited<'a>>
+    fn unedited<D: Disk>(&self, alloc: Global, disk: &D, file: &'a [u8]) -> Option<Unedited<'a>>
         ensures { (no_path : Bool) × (found : Reading) × (option_map reason_of result
             ≡ unedited (one_change no_path found) (work_in self.now) file.entry.now) }
     {
