@@ -131,24 +131,24 @@ module _ (s : Serving) (sent held : Sent) (all : AreHeld s sent held) (id : Json
     begins false h = λ name.
         nothing-same (encoding_for params) (sent name) (held name) (h name).0 (h name).1
 
-    asks : (stage : Stage) (no_memory : Bool) → Held stage s.client.encoding sent held
-        → StillHeld (requested stage no_memory s id method params).server
-    asks Fresh no_memory h =
+    asks : (stage : Stage) (o : Oracle) → Held stage s.client.encoding sent held
+        → StillHeld (requested stage o s id method params).server
+    asks Fresh o h =
         let early = replies s (error_reply id ServerNotInitialized (codes "not initialized")) in
         elim (bytes_eq method (codes "initialize")) as
-        (λ b. StillHeld (cond b (initialized no_memory s id params) early).server)
-        [ true ↦ begins no_memory h | false ↦ all ]
-    asks Running no_memory h =
+        (λ b. StillHeld (cond b (initialized (first_refusal o.refusals) s id params) early).server)
+        [ true ↦ begins (first_refusal o.refusals) h | false ↦ all ]
+    asks Running o h =
         let again = replies s (error_reply id InvalidRequest (codes "initialized already")) in
         let down = replies (record s { stage = Down }) (result_reply id null) in
-        let answer = replies s (asked_reply no_memory s id (asked_by method params)) in
+        let answer = replies s (asked_reply o s id (asked_by method params)) in
         elim (bytes_eq method (codes "initialize")) as (λ b.
         StillHeld (cond b again (cond (bytes_eq method (codes "shutdown")) down answer)).server) [
           | true ↦ all
           | false ↦ elim (bytes_eq method (codes "shutdown")) as
               (λ b. StillHeld (cond b down answer).server) [ true ↦ h | false ↦ all ]
         ]
-    asks Down no_memory h = all
+    asks Down o h = all
 
 message-held : (o : Oracle) (s : Serving) (sent held : Sent) → AreHeld s sent held
     → (m : Message) → TellsTexts m
@@ -161,7 +161,7 @@ message-held o s sent held all too_large texts = all
 message-held o s sent held all (notification method params) texts =
     notice-held o s sent held all method params texts s.stage refl all
 message-held o s sent held all (request id method params) texts =
-    asks s sent held all id method params s.stage (first_refusal o.refusals) all
+    asks s sent held all id method params s.stage o all
 
 all-held : (s : Serving) (sent held : Sent) → AreHeld s sent held → (arrived : List Arrived)
     → AllByRecursion (λ (a : Arrived). TellsTexts a.0) arrived
