@@ -671,6 +671,8 @@ def renames(plan: Plan) -> None:
     plan.ask("rename", *place, is_now=[(main, 11, 26, 30), (shape, 5, 4, 8), (header, 7, 4, 8)])
     plan.look("rename", *place, "surface", is_now=[])
     plan.texts(new)
+    for file in shape, header:  # an editor that is set up to start the server does so by itself
+        plan.do("open", file)
     plan.ask("definition", *place, is_now=[(shape, 5, 4, 11)])
     plan.ask("uses", *place, is_now=[(main, 11, 26, 33), (header, 7, 4, 11)])
     plan.ask("workspace", main, "area", is_now=[])
@@ -773,7 +775,8 @@ def plain(method: str, told: object, root: pathlib.Path) -> object:
         return bool(told["isIncomplete"]), [(it["label"], it["kind"]) for it in told["items"]]
     if method.endswith("rename"):
         edits = [({"uri": uri, **it}) for uri, some in told["changes"].items() for it in some]
-        return [(*place_of(it, root), it["range"]["end"]["character"]) for it in edits]
+        # the files of an object in nvim come in no order
+        return sorted((*place_of(it, root), it["range"]["end"]["character"]) for it in edits)
     if method.endswith("Highlight"):
         ranges = [it["range"] for it in told]
         return [(it["start"]["line"], *(it[at]["character"] for at in ENDS)) for it in ranges]
