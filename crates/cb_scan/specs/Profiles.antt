@@ -11,6 +11,7 @@ use Rattle.cb_scan.specs.declared.profile.Profile.{Profile}
 use Rattle.cb_scan.specs.declared.profile.Rules.{Rules}
 use Rattle.cb_scan.specs.declared.profile.Rules.TheVariants.{Prototypes, Standard, Wide}
 use Rattle.cb_scan.specs.declared.profile.Wanted.{Wanted}
+use Rattle.cb_scan.specs.declared.rules.scope.Range.{Range}
 use Rattle.cb_scan.specs.declared.facts.Kind.TheVariants as kind
 use Rattle.cb_scan.specs.rules.Code.{code}
 use Rattle.cb_scan.specs.rules.Functions.{Function, functions}
@@ -30,6 +31,14 @@ abbrev pub functions_by : Rules → List ℕ → List Piece → List Function
 functions_by Standard text ps = functions (code text ps)
 functions_by Wide text ps = functions_of text ps
 functions_by Prototypes text ps = functions_of text ps
+
+-- their ranges, from the first byte of a name to the end of its body
+abbrev pub ranges_by : Rules → List ℕ → List Piece → List Range
+ranges_by rules text ps = ranges_of text ps (functions_by rules text ps)
+
+-- those of a text
+abbrev pub ranges_in : Rules → List ℕ → List Range
+ranges_in rules text = ranges_by rules text (pieces text)
 
 -- an external declaration or a prototype: what it names is defined elsewhere
 abbrev pub is_declaration : Kind → Bool

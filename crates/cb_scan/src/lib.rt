@@ -24,5 +24,6 @@ pub use lex::piece::{Class, Piece, Pieces, Span};
 pub use meter::Meter;
 pub use prefix::key_prefix;
 pub use profile::{Profile, Rules, Wanted};
-pub use scanner::scan;
+pub use rules::scope::Range;
+pub use scanner::{function_ranges, scan};
 pub use source::{ScanError, Source};

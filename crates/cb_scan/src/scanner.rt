@@ -6,7 +6,7 @@ ghost use Rattle.cb_scan.specs.declared.source.TheConstants.{MOST_BYTES};
 ghost use Rattle.cb_scan.specs.Definitions.{AreWithin};
 ghost use Rattle.cb_scan.specs.lex.Pieces.{IsPieces};
 ghost use Rattle.cb_scan.specs.lex.Tokens.{is_significant};
-ghost use Rattle.cb_scan.specs.Profiles.{facts_by, facts_in};
+ghost use Rattle.cb_scan.specs.Profiles.{facts_by, facts_in, ranges_by, ranges_in};
 ghost use Rattle.cb_scan.specs.rules.Code.{is_newline};
 
 mod standard;
@@ -17,6 +17,7 @@ use crate::facts::Facts;
 use crate::lex::piece::Class;
 use crate::meter::Meter;
 use crate::profile::{Profile, Rules};
+use crate::rules::scope::Range;
 use crate::source::{ScanError, Source};
 use std::alloc::{AllocError, Global};
 
@@ -72,6 +73,38 @@ pub fn scan(
     meter.add(text.len() as u64);
     match facts_in(alloc, profile, text) {
         Ok(found) => Ok(found),
+        Err(_) => Err(ScanError::OutOfMemory),
+    }
+}
+
+/// The ranges of the functions that rules find in a text.
+fn ranges_in(alloc: Global, rules: Rules, text: &[u8]) -> Result<Vec<Range>, AllocError>
+    requires { length text.now ≤ MOST_BYTES }
+    ensures { IfOk result (λ rs. rs.items ≡ ranges_in rules text.now) }
+{
+    match rules {
+        Rules::Standard => standard::ranges_in(alloc, text),
+        Rules::Wide => wide::ranges_in(alloc, text),
+        Rules::Prototypes => wide::ranges_in(alloc, text),
+    }
+}
+
+/// The functions that rules find in the text, those to which [`scan`] counts uses and calls: for
+/// each its name, and where its body ends, after the `}` or at the end of the text. Refused memory is
+/// the only error. One pass, and time in proportion to the text.
+pub fn function_ranges(
+    alloc: Global,
+    rules: Rules,
+    source: &Source,
+) -> Result<Vec<Range>, ScanError>
+    ensures ranges { IfOk result (λ rs. rs.items ≡ ranges_in rules source.now) }
+    ensures exact { IfOk result
+        (λ rs. (ps : List Piece) → IsPieces source.now ps
+        → rs.items ≡ ranges_by rules source.now ps) }
+    ensures memory { IfErr result (λ e. e ≡ ScanError.OutOfMemory) }
+{
+    match ranges_in(alloc, rules, source.bytes()) {
+        Ok(ranges) => Ok(ranges),
         Err(_) => Err(ScanError::OutOfMemory),
     }
 }

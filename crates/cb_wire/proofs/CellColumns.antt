@@ -1,52 +1,17 @@
 -- The place and the offset of a column in a line are behind the same characters.
 use Rattle.std.proofs.Common.{◌≡◌, ◌∙◌, sym, ap, refl, ℕ, zero, suc, ◌+◌, ◌-◌, ◌<◌, ◌≤◌}
 use Rattle.std.proofs.Common.{Bool, true, false, cond, min, List, [], ◌∷◌, ◌++◌, length}
-use Rattle.std.proofs.Common.{drop, map, arith, ⊎_elim, slice_index, length-append}
+use Rattle.std.proofs.Common.{arith, ⊎_elim, slice_index, length-append}
 use Rattle.std.proofs.Common.{drop_at, get_or-append-add}
 use Rattle.std.specs.Char.Utf16.{is_low_surrogate}
 use Rattle.std.proofs.lemmas.Bool.{cases_lt, cond-true, cond-false, true≢false}
-use Rattle.std.proofs.lemmas.List.Sums.{sum_by-cons}
 use Rattle.cb_wire.specs.declared.units.Character.{Character}
 use Rattle.cb_wire.specs.declared.units.Encoding.{Encoding}
 use Rattle.cb_wire.specs.Offsets.{column_offset, outside_pairs}
-use Rattle.cb_wire.specs.Units.{bytes_of, characters, fitting, place_in_line}
-use Rattle.cb_wire.proofs.Cells.{AreCodes, AreUnits, bytes_all, bytes_for, cell, one, two, units_all}
+use Rattle.cb_wire.specs.Units.{place_in_line}
+use Rattle.cb_wire.proofs.Cells.{AreCodes, AreUnits, IsCode, bytes_all, bytes_for, cell, one, two, units_all}
 use Rattle.cb_wire.proofs.Cells.{units_for}
-use Rattle.cb_wire.proofs.Fitting.{characters-nil, characters-step, fitting-step, fitting-stop}
-
--- ---- the characters of a line
-
-abbrev size : Encoding → ℕ → Character
-size e c = record { bytes = length (bytes_for e c); units = length (units_for e c) }
-
-are-sizes : (e : Encoding) (cs : List ℕ) → AreCodes e cs
-    → characters e (bytes_all e cs) ≡ map (size e) cs
-are-sizes e [] codes = characters-nil e [] refl
-are-sizes e (c ∷ cs) codes =
-    let x = cell e c codes.0 in
-    let rest = bytes_all e cs in
-    let line = bytes_for e c ++ rest in
-    let some : 0 < length line = omega (arith, x.some, length-append (bytes_for e c) rest) in
-    characters-step e line some
-    ∙ ap (λ (k : Character). k ∷ characters e (drop k.bytes line)) (x.counts rest)
-    ∙ ap (λ l. size e c ∷ characters e l)
-    (drop_at (bytes_for e c) rest (length (bytes_for e c)) refl)
-    ∙ ap (λ l. size e c ∷ l) (are-sizes e cs codes.1)
-
-abbrev placed : Encoding → List ℕ → ℕ → ℕ
-placed e cs col = bytes_of (fitting (λ k. k.units) col (map (size e) cs))
-
-module _ (e : Encoding) (c : ℕ) (cs : List ℕ) where
-  placed-step : (col : ℕ) → length (units_for e c) ≤ col
-      → placed e (c ∷ cs) col ≡ length (bytes_for e c) + placed e cs (col - length (units_for e c))
-  placed-step col p =
-      let left = col - length (units_for e c) in
-      ap bytes_of (fitting-step (λ k. k.units) col (size e c) (map (size e) cs) p)
-      ∙ sum_by-cons (λ (k : Character). k.bytes) (size e c)
-      (fitting (λ k. k.units) left (map (size e) cs))
-
-  placed-stop : (col : ℕ) → col < length (units_for e c) → placed e (c ∷ cs) col ≡ 0
-  placed-stop col p = ap bytes_of (fitting-stop (λ k. k.units) col (size e c) (map (size e) cs) p)
+use Rattle.cb_wire.proofs.Fitting.{measured-end, measured-step, measured-stop}
 
 -- ---- offsets in a line
 
@@ -116,41 +81,59 @@ pub record Before (e : Encoding) (line : List ℕ) (col : ℕ) : Type 0 where
   pub place_is : place_in_line e (bytes_all e line) col ≡ length (bytes_all e front)
   pub offset_is : column_offset (units_all e line) col ≡ length (units_all e front)
 
-record Found (e : Encoding) (line : List ℕ) (col : ℕ) : Type 0 where
-  front : List ℕ
-  back : List ℕ
-  whole : line ≡ front ++ back
-  place_is : placed e line col ≡ length (bytes_all e front)
-  offset_is : column_offset (units_all e line) col ≡ length (units_all e front)
+-- the place behind the first character, or before it
+module _ (e : Encoding) (c : ℕ) (is : IsCode e c) (rest : List ℕ) (col : ℕ) where
+  abbrev us : List ℕ
+  us = units_for e c
 
-found : (e : Encoding) (line : List ℕ) → AreCodes e line → (col : ℕ) → Found e line col
-found e [] codes col = record {
+  abbrev bs : List ℕ
+  bs = bytes_for e c
+
+  abbrev size : Character
+  size = record { bytes = length bs; units = length us }
+
+  some : 0 < length (bs ++ rest)
+  some = omega (arith, (cell e c is).some, length-append bs rest)
+
+  placed-stop : col < length us → 0 ≡ place_in_line e (bs ++ rest) col
+  placed-stop p =
+      measured-stop (λ k. k.units) (λ k. k.bytes) e (bs ++ rest) col size
+      (sym ((cell e c is).counts rest)) some p
+
+  placed-step : length us ≤ col
+      → place_in_line e (bs ++ rest) col ≡ length bs + place_in_line e rest (col - length us)
+  placed-step p =
+      measured-step (λ k. k.units) (λ k. k.bytes) e (bs ++ rest) col size
+      (sym ((cell e c is).counts rest)) some rest (sym (drop_at bs rest (length bs) refl)) p
+
+pub before : (e : Encoding) (line : List ℕ) → AreCodes e line → (col : ℕ) → Before e line col
+before e [] codes col = record {
   front = [];
   back = [];
   whole = refl;
-  place_is = refl;
+  place_is = sym (measured-end (λ k. k.units) (λ k. k.bytes) e [] col refl);
   offset_is = omega arith;
 }
-found e (c ∷ cs) codes col =
-    let x = cell e c codes.0 in
+before e (c ∷ cs) codes col =
     let us = units_for e c in
     let bs = bytes_for e c in
+    let rest = bytes_all e cs in
     ⊎_elim
     (λ (p : col < length us). record {
       front = [];
       back = c ∷ cs;
       whole = refl;
-      place_is = placed-stop e c cs col p;
-      offset_is = within us (units_all e cs) col x.is_units p;
+      place_is = sym (placed-stop e c codes.0 rest col p);
+      offset_is = within us (units_all e cs) col (cell e c codes.0).is_units p;
     })
     (λ (p : length us ≤ col).
-    let more = found e cs codes.1 (col - length us) in
+    let more = before e cs codes.1 (col - length us) in
     let all : col ≡ length us + (col - length us) = omega arith in
     record {
       front = c ∷ more.front;
       back = more.back;
       whole = ap (λ l. c ∷ l) more.whole;
-      place_is = placed-step e c cs col p ∙ ap (λ n. length bs + n) more.place_is
+      place_is = placed-step e c codes.0 rest col p ∙ ap (λ n. length bs + n) more.place_is
           ∙ sym (length-append bs (bytes_all e more.front));
       offset_is = ap (column_offset (us ++ units_all e cs)) all
           ∙ shift us (units_all e cs) (col - length us) (outside e cs codes.1)
@@ -158,15 +141,3 @@ found e (c ∷ cs) codes col =
           ∙ sym (length-append us (units_all e more.front));
     })
     (cases_lt col (length us))
-
-pub before : (e : Encoding) (line : List ℕ) → AreCodes e line → (col : ℕ) → Before e line col
-before e line codes col =
-    let f = found e line codes col in
-    record {
-      front = f.front;
-      back = f.back;
-      whole = f.whole;
-      place_is = ap (λ ks. bytes_of (fitting (λ k. k.units) col ks)) (are-sizes e line codes)
-          ∙ f.place_is;
-      offset_is = f.offset_is;
-    }

@@ -9,6 +9,7 @@ pub mod EditTexts
 pub mod Escapes
 pub mod FirstLines
 pub mod Fitting
+pub mod Folds
 pub mod FrameLemmas
 pub mod Letters
 pub mod Lines

@@ -33,7 +33,7 @@ welcome_front id e rest =
 
 abbrev pub welcome_end : List ℕ → List ℕ
 welcome_end version =
-    codes ",\"callHierarchyProvider\":true},"
+    codes ",\"callHierarchyProvider\":true,\"foldingRangeProvider\":true},"
     ++ (codes "\"serverInfo\":{\"name\":\"cbrowse\",\"version\":\""
     ++ (escape version ++ codes "\"}}}"))
 

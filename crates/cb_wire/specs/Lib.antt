@@ -2,6 +2,7 @@ pub mod Calls
 pub mod Completions
 pub mod Edits
 pub mod Fields
+pub mod Folds
 pub mod Frames
 pub mod Heads
 pub mod Messages

@@ -33,7 +33,8 @@ capabilities encoding prepares =
     (member (codes "documentSymbolProvider") (boolean true)
     (member (codes "workspaceSymbolProvider") (boolean true)
     (member (codes "renameProvider") (renaming prepares)
-    (member (codes "callHierarchyProvider") (boolean true) no_members)))))))))))
+    (member (codes "callHierarchyProvider") (boolean true)
+    (member (codes "foldingRangeProvider") (boolean true) no_members))))))))))))
 
 -- who the server is
 abbrev pub server_info : (version : List ℕ) → Json

@@ -26,6 +26,7 @@ ghost use Rattle.json.specs.Tree.{HasNumbers, depth, json_tokens};
 ghost use Rattle.cb_wire.specs.declared.calls.CallItem.{CallItem};
 ghost use Rattle.cb_wire.specs.declared.calls.Side.{Side};
 ghost use Rattle.cb_wire.specs.declared.completion.Completion.{Completion};
+ghost use Rattle.cb_wire.specs.declared.fold.Fold.{Fold};
 ghost use Rattle.cb_wire.specs.declared.message.Id.{Id};
 ghost use Rattle.cb_wire.specs.declared.location.Highlight.{Highlight};
 ghost use Rattle.cb_wire.specs.declared.location.Location.{Location};
@@ -63,6 +64,7 @@ ghost use Rattle.cb_wire.specs.Uris.{
 ghost use Rattle.cb_wire.specs.Calls.{call_item_tree, calls_of, side_name};
 ghost use Rattle.cb_wire.specs.Completions.{completion_tree};
 ghost use Rattle.cb_wire.specs.Edits.{FileEdits, HasEdits, edit_of, edits_of, edits_texts};
+ghost use Rattle.cb_wire.specs.Folds.{fold_tree};
 ghost use Rattle.cb_wire.specs.Lists.{list_text};
 ghost use Rattle.cb_wire.specs.Locations.{highlight_tree, location_tree};
 ghost use Rattle.cb_wire.specs.Symbols.{symbol_tree, tree_symbol_tree};
@@ -176,8 +178,8 @@ pub fn lists_are_arrays()
 {}
 
 /// A range, a location, a range that is marked, a symbol, a function or macro that calls or is
-/// called, calls that have one end in common, and a name that completes a word, are values that can
-/// be written and read back.
+/// called, calls that have one end in common, a name that completes a word, and lines that are
+/// folded, are values that can be written and read back.
 pub fn places_are_values()
     ensures range { (r : Range) → FitsWords r
         → HasNumbers (range_tree r) × (depth (range_tree r) ≡ 2) }
@@ -199,6 +201,8 @@ pub fn places_are_values()
         × (depth (calls_of (side_name side) (call_item_tree i) rs) ≡ 4) }
     ensures completion { (c : Completion) → c.kind < 2 ^ 64
         → HasNumbers (completion_tree c) × (depth (completion_tree c) ≡ 1) }
+    ensures fold { (f : Fold) → f.first < 2 ^ 64 → f.last < 2 ^ 64
+        → HasNumbers (fold_tree f) × (depth (fold_tree f) ≡ 1) }
 {}
 
 /// The texts of edits, with commas between them, are the text of all edits by file, where each file

@@ -6,6 +6,7 @@
 mod calls;
 mod completion;
 mod edits;
+mod fold;
 mod frame;
 mod head;
 mod header;
@@ -27,6 +28,7 @@ mod welcome;
 pub use calls::{CallItem, Calls, Ranged, Side};
 pub use completion::Completion;
 pub use edits::FileEdit;
+pub use fold::Fold;
 pub use frame::{Frame, FrameError, Frames, MOST_BODY};
 pub use list::{Element, Elements, MOST_ELEMENTS, put_list_result};
 pub use location::{Highlight, Location};

@@ -58,7 +58,7 @@ pub fn put_welcome<'a, W: Write>(
             Part::Raw(b"\"documentSymbolProvider\":true,\"workspaceSymbolProvider\":true,"),
             Part::Raw(b"\"renameProvider\":"),
             Part::Raw(renaming(prepares)),
-            Part::Raw(b",\"callHierarchyProvider\":true},"),
+            Part::Raw(b",\"callHierarchyProvider\":true,\"foldingRangeProvider\":true},"),
             Part::Raw(b"\"serverInfo\":{\"name\":\"cbrowse\",\"version\":\""),
             Part::Escaped(version),
             Part::Raw(b"\"}}}"),

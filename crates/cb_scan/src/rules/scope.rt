@@ -18,9 +18,10 @@ use crate::lex::token::Token;
 use std::alloc::{AllocError, Global};
 use std::marker::Model;
 
-/// A function or macro: its name, and where its range ends, which begins with the name.
+/// A function or macro: its name, and where its range ends, which begins with the name. A place is
+/// a number of bytes from the beginning of the text.
 #[derive(Clone, Copy, Debug, PartialEq, Eq)]
-pub(crate) struct Range {
+pub struct Range {
     pub name: Span,
     pub end: u32,
 }

@@ -22,6 +22,7 @@ use crate::profile::Wanted;
 use crate::rules::directives::Stage;
 use crate::rules::functions::Machine;
 use crate::rules::order::ordered_defs;
+use crate::rules::scope::Range;
 use crate::rules::structures::Naming;
 use crate::scanner::together::facts_with;
 use crate::scanner::{is_newline, is_significant};
@@ -111,4 +112,13 @@ pub(crate) fn facts_in(alloc: Global, wanted: Wanted, text: &[u8]) -> Result<Fac
         &gathered.lines,
     )?;
     Ok(facts)
+}
+
+/// The ranges of the functions that the standard rules find in a text.
+pub(crate) fn ranges_in(alloc: Global, text: &[u8]) -> Result<Vec<Range>, AllocError>
+    requires { length text.now ≤ MOST_BYTES }
+    ensures { IfOk result (λ rs. rs.items ≡ function_ranges text.now (pieces text.now)) }
+{
+    let gathered = gather(alloc, false, text)?;
+    Ok(gathered.code.ranges)
 }

@@ -22,6 +22,7 @@ use crate::lex::token::{Token, token_of};
 use crate::profile::Wanted;
 use crate::rules::directives::Stage;
 use crate::rules::order::ordered_defs;
+use crate::rules::scope::Range;
 use crate::rules::wide::beside::staying;
 use crate::rules::wide::found::Found;
 use crate::rules::wide::joint::Joint;
@@ -146,4 +147,14 @@ pub(crate) fn facts_in(
         &gathered.lines,
     )?;
     Ok(facts)
+}
+
+/// The ranges of the functions that the wide rules find in a text.
+pub(crate) fn ranges_in(alloc: Global, text: &[u8]) -> Result<Vec<Range>, AllocError>
+    requires { length text.now ≤ MOST_BYTES }
+    ensures { IfOk result (λ rs. rs.items
+        ≡ ranges_of text.now (pieces text.now) (functions_of text.now (pieces text.now))) }
+{
+    let gathered = gather(alloc, false, text)?;
+    Ok(gathered.found.into_ranges())
 }

@@ -1,5 +1,5 @@
 //! Sources, their pieces and keys by their first bytes, worked out by hand.
-use cb_scan::{Class, Piece, Source, Span, key_prefix, pieces};
+use cb_scan::{Class, Piece, Range, Rules, Source, Span, function_ranges, key_prefix, pieces};
 use std::test::Fail;
 
 #[test]
@@ -35,6 +35,31 @@ fn lines_begin_where_their_bytes_do(rt: HostRuntime) -> Result<(), Fail> {
         assert_eq!(rt; source.line_of(place), line);
     }
     assert_eq!(rt; source.line_of(u32::MAX), 3);
+    Ok(())
+}
+
+#[test]
+fn functions_range_from_their_names_to_the_ends_of_their_bodies(
+    rt: HostRuntime,
+) -> Result<(), Fail> {
+    let closed = |start: u32, end: u32, to: u32| -> Range {
+        Range {
+            name: Span { start, end },
+            end: to,
+        }
+    };
+    let text = b"int f(void) {\n}\nint g(void) {";
+    let source = Source::new(rt.alloc(), text.to_vec(rt.alloc())?)?;
+    let found = [closed(4, 5, 15), closed(20, 21, 29)];
+    for rules in [Rules::Standard, Rules::Wide, Rules::Prototypes] {
+        let ranges = function_ranges(rt.alloc(), rules, &source)?;
+        assert_eq!(rt; ranges.as_slice(), found.as_slice());
+    }
+    let source = Source::new(rt.alloc(), b"NO(1) int f(void) {}".to_vec(rt.alloc())?)?;
+    let standard = function_ranges(rt.alloc(), Rules::Standard, &source)?;
+    assert_eq!(rt; standard.as_slice(), [closed(0, 2, 20)].as_slice());
+    let wide = function_ranges(rt.alloc(), Rules::Wide, &source)?;
+    assert_eq!(rt; wide.as_slice(), [closed(10, 11, 20)].as_slice());
     Ok(())
 }
 

@@ -1,7 +1,7 @@
 //! Places of files, and replies whose result is a list.
 use cb_tags::{Sink, WriteFault, put_text};
 use cb_wire::{
-    Completion, Element, Elements, Id, Location, MOST_ELEMENTS, Part, Position, Range, Root,
+    Completion, Element, Elements, Fold, Id, Location, MOST_ELEMENTS, Part, Position, Range, Root,
     Symbol, TreeSymbol, part_length, parts_length, put_list_result, put_parts,
 };
 use std::io::Write;
@@ -149,6 +149,21 @@ fn names_that_complete_a_word_are_listed(rt: HostRuntime) {
         b"Content-Length: 118\r\n\r\n{\"jsonrpc\":\"2.0\",\"id\":5,\"result\":\
           {\"isIncomplete\":true,\"items\":[{\"label\":\"ab\",\"kind\":3},\
           {\"label\":\"a\xEF\xBF\xBD\\\"\",\"kind\":21}]}}"
+            .as_slice()
+    );
+}
+
+#[test]
+fn lines_that_are_folded_are_listed(rt: HostRuntime) {
+    let folds = [Fold { first: 0, last: 3 }, Fold { first: 8, last: 10 }];
+    let mut written = Vec::new(rt.alloc());
+    let mut sink = Sink::new(&mut written);
+    let (id, tail) = (Id::Number("5"), [Part::Raw(b"]")]);
+    assert!(rt; put_list_result(&mut sink, id, b"[", b",", &tail, 2, folds.as_slice()).is_ok());
+    assert_eq!(rt;
+        written.as_slice(),
+        b"Content-Length: 92\r\n\r\n{\"jsonrpc\":\"2.0\",\"id\":5,\"result\":\
+          [{\"startLine\":0,\"endLine\":3},{\"startLine\":8,\"endLine\":10}]}"
             .as_slice()
     );
 }

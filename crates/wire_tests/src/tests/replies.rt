@@ -52,13 +52,14 @@ fn a_client_is_welcomed(rt: HostRuntime) {
     assert!(rt; put_welcome(&mut sink, id, Encoding::Utf16, false, b"1.2\"").is_ok());
     assert_eq!(rt;
         written.as_slice(),
-        b"Content-Length: 433\r\n\r\n{\"jsonrpc\":\"2.0\",\"id\":0,\"result\":\
+        b"Content-Length: 461\r\n\r\n{\"jsonrpc\":\"2.0\",\"id\":0,\"result\":\
           {\"capabilities\":{\"positionEncoding\":\"utf-16\",\
           \"textDocumentSync\":{\"openClose\":true,\"change\":2,\"save\":true},\
           \"hoverProvider\":true,\"completionProvider\":{},\"definitionProvider\":true,\
           \"referencesProvider\":true,\"documentHighlightProvider\":true,\
           \"documentSymbolProvider\":true,\"workspaceSymbolProvider\":true,\
-          \"renameProvider\":true,\"callHierarchyProvider\":true},\
+          \"renameProvider\":true,\"callHierarchyProvider\":true,\
+          \"foldingRangeProvider\":true},\
           \"serverInfo\":{\"name\":\"cbrowse\",\"version\":\"1.2\\\"\"}}}"
             .as_slice()
     );
@@ -68,7 +69,8 @@ fn a_client_is_welcomed(rt: HostRuntime) {
     assert!(rt;
         again.as_slice().ends_with(
             b",\"renameProvider\":{\"prepareProvider\":true},\
-        \"callHierarchyProvider\":true},\
+        \"callHierarchyProvider\":true,\
+          \"foldingRangeProvider\":true},\
         \"serverInfo\":{\"name\":\"cbrowse\",\"version\":\"1.23\"}}}"
         )
     );

@@ -158,4 +158,11 @@ impl Found {
         }
         Ok(())
     }
+
+    /// The ranges of the functions.
+    pub(crate) fn into_ranges(self) -> Vec<Range>
+        ensures { result.items ≡ self.ranges }
+    {
+        self.ranges
+    }
 }

@@ -4,6 +4,7 @@ use Rattle.cb_wire.proofs.Arrays.{call-item-numbers, calls-depth, calls-numbers}
 use Rattle.cb_wire.proofs.Arrays.{tree-symbol-numbers}
 use Rattle.cb_wire.specs.Calls.{side_name}
 use Rattle.cb_wire.proofs.Completions.{item-numbers}
+use Rattle.cb_wire.proofs.Folds.{fold-numbers}
 use Rattle.cb_wire.proofs.laws.places_are_values.Goals as goal
 
 pub returns-clause-range : goal.returns-clause-range
@@ -30,3 +31,6 @@ returns-clause-calls c = λ side i rs k p q all.
 
 pub returns-clause-completion : goal.returns-clause-completion
 returns-clause-completion c = λ d k. (item-numbers d k, refl)
+
+pub returns-clause-fold : goal.returns-clause-fold
+returns-clause-fold c = λ f first last. (fold-numbers f first last, refl)
