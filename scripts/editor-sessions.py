@@ -43,7 +43,8 @@ WELCOME = (
     '"completionProvider":{},'
     '"definitionProvider":true,"referencesProvider":true,'
     '"documentHighlightProvider":true,"documentSymbolProvider":true,'
-    '"workspaceSymbolProvider":true,"renameProvider":%s,"callHierarchyProvider":true},'
+    '"workspaceSymbolProvider":true,"renameProvider":%s,'
+    '"callHierarchyProvider":true,"foldingRangeProvider":true},'
     '"serverInfo":{"name":"cbrowse","version":"%s"}}'
 )
 ASKS_FIRST = '{"prepareProvider":true}'  # told to a client that asks what would be renamed

@@ -118,6 +118,7 @@ def session() -> list[Step]:
         asked(14, "prepareCallHierarchy", "new.c", 1, 9),
         Step({"id": 15, "method": "callHierarchy/incomingCalls", "params": {"item": twice}}),
         Step({"id": 17, "method": "callHierarchy/outgoingCalls", "params": {"item": caller}}),
+        asked(18, "foldingRange", "new.c", 0, 0),
         changed("a.c", "int i(void) {\r\n}\n\treturn g(TWICE(4)); // \u0001\"\\\n" * 2),
         asked(2, "documentSymbol", "a.c", 0, 0),
         *named,

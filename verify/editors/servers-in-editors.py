@@ -73,6 +73,7 @@ METHODS = {
     "symbols": "textDocument/documentSymbol",
     "workspace": "workspace/symbol",
     "calls": "textDocument/prepareCallHierarchy",
+    "folds": "textDocument/foldingRange",
     "names": "textDocument/completion",
 }
 
@@ -527,6 +528,7 @@ def questions(plan: Plan) -> None:
     plan.ask("marks", main, 6, 17, is_now=[(6, 12, 17)])  # SIDES
     plan.ask("marks", main, 11, 15, is_now=[])
     plan.ask("symbols", main, is_now=[("helper", FUNCTION, 4, 11), ("main", FUNCTION, 9, 4)])
+    plan.ask("folds", main, is_now=[(4, 7), (9, 12)])
     both = [("helper", FUNCTION, main, 4, 11), ("helper", FUNCTION, shape, 1, 11)]
     plan.ask("workspace", main, "helper", is_now=both)
     guard = ("SHAPE_H", MACRO, header, 1, 8)
@@ -777,6 +779,8 @@ def plain(method: str, told: object, root: pathlib.Path) -> object:
         edits = [({"uri": uri, **it}) for uri, some in told["changes"].items() for it in some]
         # the files of an object in nvim come in no order
         return sorted((*place_of(it, root), it["range"]["end"]["character"]) for it in edits)
+    if method.endswith("foldingRange"):
+        return [(it["startLine"], it["endLine"]) for it in told]
     if method.endswith("Highlight"):
         ranges = [it["range"] for it in told]
         return [(it["start"]["line"], *(it[at]["character"] for at in ENDS)) for it in ranges]

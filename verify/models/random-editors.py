@@ -408,6 +408,9 @@ class Editor:
     def symbols(self) -> dict:
         return self.request("textDocument/documentSymbol", {"textDocument": {"uri": self.uri()}})
 
+    def folds(self) -> dict:
+        return self.request("textDocument/foldingRange", {"textDocument": {"uri": self.uri()}})
+
     def all_symbols(self) -> dict:
         return self.request("workspace/symbol", {"query": self.one(*QUERIES)})
 
@@ -450,7 +453,7 @@ class Editor:
         """A message of which one member, at any depth, has another value or is missing."""
         documents = self.open, self.change, self.save, self.close
         places = self.at_place, self.references, self.rename, self.symbols
-        calls = self.calls, self.callees
+        calls = self.calls, self.callees, self.folds
         made = self.one(*documents, *places, *calls, self.initialize)()
         inside, name = made, self.one("params", "params", "params", "id", "method")
         while name in inside:
@@ -489,6 +492,7 @@ class Editor:
             self.all_symbols: 4,
             self.calls: 4,
             self.callees: 5,
+            self.folds: 3,
             self.other: 1,
             self.wrong: 2,
             self.initialize: 0.2,

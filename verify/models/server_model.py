@@ -27,7 +27,8 @@ WELCOME = (
     b'"completionProvider":{},'
     b'"definitionProvider":true,"referencesProvider":true,'
     b'"documentHighlightProvider":true,"documentSymbolProvider":true,'
-    b'"workspaceSymbolProvider":true,"renameProvider":%s,"callHierarchyProvider":true},'
+    b'"workspaceSymbolProvider":true,"renameProvider":%s,'
+    b'"callHierarchyProvider":true,"foldingRangeProvider":true},'
     b'"serverInfo":{"name":"cbrowse","version":"0.1.0"}}'
 )
 # which files a client is asked to tell of
@@ -521,6 +522,7 @@ class Server:
             "textDocument/prepareCallHierarchy": self.prepare_calls,
             "callHierarchy/incomingCalls": self.incoming_calls,
             "callHierarchy/outgoingCalls": self.outgoing_calls,
+            "textDocument/foldingRange": self.folding,
         }
         if method not in results:
             raise Error(-32601, b"unknown method")
@@ -924,6 +926,16 @@ class Server:
             for it in self.callable(file, callee)
         ]
         return listed(rows)
+
+    def folding(self, params):
+        file = self.file_of(params)
+        if file not in self.world.files:
+            return b"null"
+        text = self.world.files[file]
+        ranges = self.facts(text).functions
+        lines = [(text.count(b"\n", 0, it), text.count(b"\n", 0, end - 1)) for it, end in ranges]
+        form = b'{"startLine":%d,"endLine":%d}'
+        return listed(form % (first, last) for first, last in lines if first < last)
 
     def document_symbol(self, params):
         file = self.file_of(params)

@@ -386,6 +386,7 @@ class Facts(NamedTuple):
     uses: list
     calls: list
     includes: list
+    functions: list  # the place of each name, and where the body ends
 
 
 class Scopes:
@@ -485,4 +486,5 @@ def facts_of(parts, own_functions, named, kinds):
             for token, caller in calls
         ],
         [Include(name, line_of(place), scopes.at(place)) for place, name in headers if name],
+        sorted((one.name.place, one.end) for one in own_functions),
     )

@@ -1,6 +1,7 @@
 -- What is answered to a question.
 use Rattle.std.proofs.Common.{◌≡◌, ◌∙◌, ℕ, Bool, true, false, List, map, ap, refl, sym, subst}
-use Rattle.std.specs.Prelude.{None, Some, Result, Ok, Err, if◌then◌else◌}
+use Rattle.std.specs.Prelude.{None, Some, Option, Result, Ok, Err, if◌then◌else◌}
+use Rattle.std.specs.List.{AllByRecursion}
 use Rattle.std.specs.Option.{option_map}
 use Rattle.json.specs.Json.{Json, array, null}
 use Rattle.cb_desk.specs.Scanned.{ScannedText, scanned_by, scanned_named}
@@ -15,12 +16,15 @@ use Rattle.cb_wire.specs.Texts.{frame}
 use Rattle.cb_wire.specs.Trees.{result_reply}
 use Rattle.cb_wire.specs.Uris.{name_below, path_of}
 use Rattle.cb_wire.specs.Values.{items_of, value_text}
-use Rattle.cb_lsp.specs.Answers.{answer_in, answer_named, answer_reply, name_of_uri}
+use Rattle.cb_lsp.specs.Answers.{answer_in, answer_named, answer_reply, name_of_uri, reply_with}
+use Rattle.cb_lsp.specs.Bodies.{Replies}
 use Rattle.cb_lsp.specs.Clients.{Client}
-use Rattle.cb_lsp.specs.Documents.{Document, Oracle, later}
-use Rattle.cb_lsp.specs.Messages.{Serving, asked_reply}
-use Rattle.cb_lsp.specs.Questions.{Asked, in_file, rename, workspace_symbols}
-use Rattle.cb_lsp.specs.Renames.{Unrenamed, no_definition, renamable_at, renamed_at, renamed_word}
+use Rattle.cb_lsp.specs.Documents.{Document, Looked, Oracle, later}
+use Rattle.cb_lsp.specs.Messages.{Serving, asked_reply, result_unless}
+use Rattle.cb_lsp.specs.Questions.{Asked, folds, in_file, incoming, outgoing, rename}
+use Rattle.cb_lsp.specs.Questions.{workspace_symbols}
+use Rattle.cb_lsp.specs.Renames.{Answered, no_definition, renamable_at, renamed_at, renamed_word}
+use Rattle.cb_lsp.specs.Renames.{unread}
 use Rattle.cb_lsp.specs.Searches.{found_by}
 use Rattle.cb_lsp.specs.Symbols.{session_symbol}
 use Rattle.cb_lsp.specs.declared.question.FileQuestion.{FileQuestion}
@@ -118,7 +122,7 @@ pub puts-named : {A E : Type 0} (s : Serving) (uri path name : List ℕ)
     → Puts before after r (frame (value_text (result_reply id
     (answer_named s.client s.work.world question (Some name)))))
     → Puts before after r
-    (frame (value_text (asked_reply (only false) s id (Ok (in_file uri question)))))
+    (frame (value_text (asked_reply (only false) s id (Ok (in_file uri question))).message))
 puts-named s uri path name question id before after r found is put =
     let same : Some name ≡ name_of_uri s.client uri =
     ap Some is ∙ ap (option_map (name_below s.client.root.path)) found in
@@ -129,38 +133,76 @@ pub puts-nowhere : {A E : Type 0} (s : Serving) (uri : List ℕ) (question : Fil
     (id : Json) (before after : Writer) (r : Result A E) → None ≡ path_of uri
     → Puts before after r (frame (value_text (result_reply id null)))
     → Puts before after r
-    (frame (value_text (asked_reply (only false) s id (Ok (in_file uri question)))))
+    (frame (value_text (asked_reply (only false) s id (Ok (in_file uri question))).message))
 puts-nowhere s uri question id before after r none put =
     let same : None ≡ name_of_uri s.client uri =
     ap (option_map (name_below s.client.root.path)) none in
     subst (λ n. Puts before after r
     (frame (value_text (result_reply id (answer_named s.client s.work.world question n))))) same put
 
+-- ---- what is told of a file, unless memory is refused
+
+abbrev pub Tells : (told : Client → World → Option (List ℕ) → Json) → Bool → Serving → (id : Json)
+    → (uri : List ℕ) → Asked → Type 0
+Tells told no_memory s id uri asked =
+    result_unless no_memory id (told s.client s.work.world (name_of_uri s.client uri))
+    ≡ (asked_reply (only no_memory) s id (Ok asked)).message
+
+-- of the file of a URI
+pub puts-of-file : {A E : Type 0} (told : Client → World → Option (List ℕ) → Json)
+    (asked : Asked) (no_memory : Bool) (s inside : Serving) (c : Client) (w : World)
+    (uri path file : List ℕ) (id : Json) (before after : Writer) (r : Result A E) → inside ≡ s
+    → c ≡ inside.client → w ≡ inside.work.world → Some path ≡ path_of uri
+    → file ≡ name_below inside.client.root.path path → Tells told no_memory s id uri asked
+    → Puts before after r (frame (value_text (result_unless no_memory id (told c w (Some file)))))
+    → Puts before after r
+    (frame (value_text (asked_reply (only no_memory) s id (Ok asked)).message))
+puts-of-file told asked no_memory s inside c w uri path file id before after r is c-is w-is found
+    file-is tells put =
+    let named : Some file ≡ name_of_uri inside.client uri =
+    ap Some file-is ∙ ap (option_map (name_below inside.client.root.path)) found in
+    let same : told c w (Some file) ≡ told s.client s.work.world (name_of_uri s.client uri) =
+    (λ i. told (c-is i) (w-is i) (named i))
+    ∙ ap (λ (x : Serving). told x.client x.work.world (name_of_uri x.client uri)) is in
+    subst (λ j. Puts before after r (frame (value_text j)))
+    (ap (result_unless no_memory id) same ∙ tells) put
+
+-- of a URI that names no file
+pub puts-of-none : {A E : Type 0} (told : Client → World → Option (List ℕ) → Json)
+    (asked : Asked) (s : Serving) (uri : List ℕ) (id : Json) (before after : Writer)
+    (r : Result A E) → None ≡ path_of uri → Tells told false s id uri asked
+    → Puts before after r
+    (frame (value_text (result_unless false id (told s.client s.work.world None))))
+    → Puts before after r (frame (value_text (asked_reply (only false) s id (Ok asked)).message))
+puts-of-none told asked s uri id before after r none tells put =
+    subst (λ j. Puts before after r (frame (value_text j)))
+    (ap (λ n. result_unless false id (told s.client s.work.world n))
+    (ap (option_map (name_below s.client.root.path)) none) ∙ tells) put
+
 -- ---- a name is changed
 
 -- the file is there
-pub puts-renamed-there : {A E : Type 0} (o : Oracle) (s inside : Serving) (here held : World)
+pub puts-renamed-there : {A E : Type 0} (finds : Looked → Type 0) (o : Oracle) (s inside : Serving) (here held : World)
     (ds : List Document) (c : Client) (name : List ℕ) (t : ScannedText) (p : Position)
     (new : List ℕ) (id : Json) (before after : Writer) (r : Result A E)
     → inside ≡ s → Some t ≡ scanned_named here.profile here.files name
     → here ≡ inside.work.world → held ≡ inside.work.world → ds ≡ inside.work.documents
     → c ≡ s.client
-    → Puts before after r (frame (value_text (answer_reply id
-    (renamed_word o c (record { world = held; documents = ds }) name t.bytes new
-    (renamable_at held t.bytes (place c.encoding t.bytes p))))))
-    → Puts before after r (frame (value_text (answer_reply id
-    (renamed_at o s.client s.work p new (Some name)))))
-puts-renamed-there o s inside here held ds c name t p new id before after r is found here-is held-is
+    → Replies finds (reply_with id (renamed_word o c (record { world = held; documents = ds }) name
+    t.bytes new (renamable_at held t.bytes (place c.encoding t.bytes p)))) before after r
+    → Replies finds (reply_with id (renamed_at o s.client s.work p new (Some name))) before after r
+puts-renamed-there finds o s inside here held ds c name t p new id before after r is found here-is held-is
     ds-is c-is put =
     let file = there here.profile here.files name t found in
-    let told : Client → World → List Document → List ℕ → Result Json Unrenamed =
+    let told : Client → World → List Document → List ℕ → Answered =
     λ k w d b. renamed_word o k (record { world = w; documents = d }) name b new
     (renamable_at w b (place k.encoding b p)) in
     let w = inside.work.world in
     let d = inside.work.documents in
     let named : told inside.client w d (text_of_file w.files name)
     ≡ renamed_at o inside.client inside.work p new (Some name) =
-    ap (λ b. if b then told inside.client w d (text_of_file w.files name) else Err no_definition)
+    ap (λ b. if b then told inside.client w d (text_of_file w.files name)
+    else unread (Err no_definition))
     (sym (ap (λ (x : World). has_file x.files name) (sym here-is) ∙ file.0)) in
     let same : told c held ds t.bytes ≡ renamed_at o s.client s.work p new (Some name) =
     ap (λ k. told k held ds t.bytes) (c-is ∙ ap (λ (x : Serving). x.client) (sym is))
@@ -170,76 +212,98 @@ puts-renamed-there o s inside here held ds c name t p new id before after r is f
     (file.1 ∙ ap (λ (x : World). text_of_file x.files name) here-is)
     ∙ named
     ∙ ap (λ (x : Serving). renamed_at o x.client x.work p new (Some name)) is in
-    subst (λ a. Puts before after r (frame (value_text (answer_reply id a)))) same put
+    subst (λ a. Replies finds (reply_with id a) before after r) same put
 
 -- there is no such file
-pub puts-renamed-missing : {A E : Type 0} (o : Oracle) (s inside : Serving) (here : World) (name : List ℕ)
+pub puts-renamed-missing : {A E : Type 0} (finds : Looked → Type 0) (o : Oracle) (s inside : Serving) (here : World) (name : List ℕ)
     (p : Position) (new : List ℕ) (id : Json) (before after : Writer) (r : Result A E)
     → inside ≡ s → None ≡ scanned_named here.profile here.files name → here ≡ inside.work.world
     → Puts before after r (frame (value_text (answer_reply id (Err no_definition))))
-    → Puts before after r (frame (value_text (answer_reply id
-    (renamed_at o s.client s.work p new (Some name)))))
-puts-renamed-missing o s inside here name p new id before after r is found here-is put =
+    → Replies finds (reply_with id (renamed_at o s.client s.work p new (Some name))) before after r
+puts-renamed-missing finds o s inside here name p new id before after r is found here-is put =
     let w = s.work.world in
     let text = text_of_file w.files name in
     let none = ap (λ (x : World). has_file x.files name) (sym (here-is
     ∙ ap (λ (x : Serving). x.work.world) is)) ∙ missing here.profile here.files name found in
-    let same : Err no_definition ≡ renamed_at o s.client s.work p new (Some name) =
+    let same : unread (Err no_definition) ≡ renamed_at o s.client s.work p new (Some name) =
     ap (λ b. if b then renamed_word o s.client s.work name text new
-    (renamable_at w text (place s.client.encoding text p)) else Err no_definition) (sym none) in
-    subst (λ a. Puts before after r (frame (value_text (answer_reply id a)))) same put
+    (renamable_at w text (place s.client.encoding text p)) else unread (Err no_definition))
+    (sym none) in
+    subst (λ a. Replies finds (reply_with id a) before after r) same (put, tt)
 
 -- the file of a URI
-pub puts-renamed : {A E : Type 0} (o : Oracle) (s : Serving) (uri path name : List ℕ) (p : Position)
+pub puts-renamed : {A E : Type 0} (finds : Looked → Type 0) (o : Oracle) (s : Serving) (uri path name : List ℕ) (p : Position)
     (text new : List ℕ) (id : Json) (before after : Writer) (r : Result A E)
     → Some path ≡ path_of uri → name ≡ name_below s.client.root.path path → text ≡ new
-    → Puts before after r (frame (value_text (answer_reply id
-    (renamed_at o s.client s.work p text (Some name)))))
-    → Puts before after r
-    (frame (value_text (asked_reply (behind false o) s id (Ok (rename uri p new)))))
-puts-renamed o s uri path name p text new id before after r found is text-is put =
+    → Replies finds (reply_with id (renamed_at o s.client s.work p text (Some name))) before after r
+    → Replies finds (asked_reply (behind false o) s id (Ok (rename uri p new))) before after r
+puts-renamed finds o s uri path name p text new id before after r found is text-is put =
     let same : Some name ≡ name_of_uri s.client uri =
     ap Some is ∙ ap (option_map (name_below s.client.root.path)) found in
-    subst (λ t. Puts before after r (frame (value_text (answer_reply id
-    (renamed_at o s.client s.work p t (name_of_uri s.client uri)))))) text-is
-    (subst (λ n. Puts before after r (frame (value_text (answer_reply id
-    (renamed_at o s.client s.work p text n))))) same put)
+    subst (λ t. Replies finds (reply_with id
+    (renamed_at o s.client s.work p t (name_of_uri s.client uri))) before after r) text-is
+    (subst (λ n. Replies finds (reply_with id (renamed_at o s.client s.work p text n)) before after r)
+    same put)
 
-pub puts-renamed-nowhere : {A E : Type 0} (s : Serving) (uri : List ℕ) (p : Position)
-    (new : List ℕ) (id : Json) (before after : Writer) (r : Result A E) → None ≡ path_of uri
-    → Puts before after r (frame (value_text (answer_reply id (Err no_definition))))
-    → Puts before after r
-    (frame (value_text (asked_reply (only false) s id (Ok (rename uri p new)))))
-puts-renamed-nowhere s uri p new id before after r none put =
-    let same : None ≡ name_of_uri s.client uri =
-    ap (option_map (name_below s.client.root.path)) none in
-    subst (λ n. Puts before after r
-    (frame (value_text (answer_reply id
-    (renamed_at (later (only false)) s.client s.work p new n))))) same put
+pub puts-renamed-nowhere : {A E : Type 0} (finds : Looked → Type 0) (s : Serving) (uri : List ℕ)
+    (p : Position) (new : List ℕ) (id : Json) (before after : Writer) (r : Result A E)
+    → None ≡ path_of uri → Puts before after r (frame (value_text (answer_reply id (Err no_definition))))
+    → Replies finds (asked_reply (only false) s id (Ok (rename uri p new))) before after r
+puts-renamed-nowhere finds s uri p new id before after r none put =
+    subst (λ n. Replies finds (reply_with id (renamed_at (later (only false)) s.client s.work p new n))
+    before after r) (ap (option_map (name_below s.client.root.path)) none) (put, tt)
 
 -- ---- a server that is the same
 
-pub puts-asked : {A E : Type 0} (s inside : Serving) (o : Oracle) (asked to : Asked)
-    (id : Json) (before after : Writer) (r : Result A E) → inside ≡ s → asked ≡ to
-    → Puts before after r (frame (value_text (asked_reply o inside id (Ok asked))))
-    → Puts before after r (frame (value_text (asked_reply o s id (Ok to))))
-puts-asked s inside o asked to id before after r is asks put =
-    subst (λ a. Puts before after r (frame (value_text (asked_reply o s id (Ok a))))) asks
-    (subst (λ (x : Serving). Puts before after r
-    (frame (value_text (asked_reply o x id (Ok asked))))) is put)
+pub puts-asked : {A E : Type 0} (finds : Looked → Type 0) (s inside : Serving) (o : Oracle)
+    (asked to : Asked) (id : Json) (before after : Writer) (r : Result A E) → inside ≡ s → asked ≡ to
+    → Replies finds (asked_reply o inside id (Ok asked)) before after r
+    → Replies finds (asked_reply o s id (Ok to)) before after r
+puts-asked finds s inside o asked to id before after r is asks put =
+    subst (λ a. Replies finds (asked_reply o s id (Ok a)) before after r) asks
+    (subst (λ (x : Serving). Replies finds (asked_reply o x id (Ok asked)) before after r) is put)
 
-pub puts-symbols : {A E : Type 0} (s inside : Serving) (world : World) (c : Client)
-    (query text : List ℕ) (to : Asked) (id : Json) (before after : Writer) (r : Result A E)
-    → inside ≡ s → workspace_symbols query ≡ to
+-- a question for which nothing is read
+abbrev pub IsUnread : Asked → Type 0
+IsUnread (in_file uri question) = Unit {0}
+IsUnread (workspace_symbols query) = Unit {0}
+IsUnread (rename uri p new) = ⊥
+IsUnread (incoming name uri) = Unit {0}
+IsUnread (outgoing name uri p) = Unit {0}
+IsUnread (folds uri) = Unit {0}
+
+nothing-read : (finds : Looked → Type 0) (m : Bool) (s : Serving) (id : Json) (asked : Asked)
+    → IsUnread asked → AllByRecursion finds (asked_reply (only m) s id (Ok asked)).read
+nothing-read finds true s id asked none = tt
+nothing-read finds false s id (in_file uri question) none = tt
+nothing-read finds false s id (workspace_symbols query) none = tt
+nothing-read finds false s id (rename uri p new) none = absurd none
+nothing-read finds false s id (incoming name uri) none = tt
+nothing-read finds false s id (outgoing name uri p) none = tt
+nothing-read finds false s id (folds uri) none = tt
+
+pub puts-unread : {A E : Type 0} (finds : Looked → Type 0) (s inside : Serving) (m : Bool)
+    (asked to : Asked) (id : Json) (before after : Writer) (r : Result A E) → inside ≡ s → asked ≡ to
+    → IsUnread asked
+    → Puts before after r (frame (value_text (asked_reply (only m) inside id (Ok asked)).message))
+    → Replies finds (asked_reply (only m) s id (Ok to)) before after r
+puts-unread finds s inside m asked to id before after r is asks none put =
+    puts-asked finds s inside (only m) asked to id before after r is asks
+    (put, nothing-read finds m inside id asked none)
+
+pub puts-symbols : {A E : Type 0} (finds : Looked → Type 0) (s inside : Serving) (world : World)
+    (c : Client) (query text : List ℕ) (to : Asked) (id : Json) (before after : Writer)
+    (r : Result A E) → inside ≡ s → workspace_symbols query ≡ to
     → world ≡ inside.work.world → c ≡ inside.client → text ≡ query
     → Puts before after r (frame (value_text (result_reply id
     (array (items_of (map (session_symbol c world.files) (found_by world text)))))))
-    → Puts before after r (frame (value_text (asked_reply (only false) s id (Ok to))))
-puts-symbols s inside world c query text to id before after r is asks world-is c-is text-is put =
+    → Replies finds (asked_reply (only false) s id (Ok to)) before after r
+puts-symbols finds s inside world c query text to id before after r is asks world-is c-is text-is
+    put =
     let told : Client → World → List ℕ → Json =
     λ k w q. array (items_of (map (session_symbol k w.files) (found_by w q))) in
     let same : told c world text ≡ told inside.client inside.work.world query =
     ap (λ k. told k world text) c-is ∙ ap (λ w. told inside.client w text) world-is
     ∙ ap (told inside.client inside.work.world) text-is in
-    puts-asked s inside (only false) (workspace_symbols query) to id before after r is asks
+    puts-unread finds s inside false (workspace_symbols query) to id before after r is asks tt
     (subst (λ j. Puts before after r (frame (value_text (result_reply id j)))) same put)

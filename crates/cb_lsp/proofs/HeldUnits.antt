@@ -23,7 +23,8 @@ use Rattle.cb_lsp.specs.Documents.{Oracle, first_refusal}
 use Rattle.cb_lsp.specs.Editors.{BringsText, EditorsStayInSync, HasTexts, TellsTexts, in_units}
 use Rattle.cb_lsp.specs.Messages.{Message, Serving, asked_reply, does, encoding_for, fresh_server}
 use Rattle.cb_lsp.specs.Messages.{initialized, not_json, not_request, notice_of, notification}
-use Rattle.cb_lsp.specs.Messages.{noticed_by, noticed_if, replies, reply, request, requested}
+use Rattle.cb_lsp.specs.Messages.{noticed_by, noticed_if, replied, replies, reply, request}
+use Rattle.cb_lsp.specs.Messages.{requested}
 use Rattle.cb_lsp.specs.Messages.{too_large}
 use Rattle.cb_lsp.specs.Params.{changes_in, document_text, uri_in}
 use Rattle.cb_lsp.specs.Questions.{asked_by}
@@ -141,7 +142,7 @@ module _ (s : Serving) (sent held : Sent) (all : AreHeld s sent held) (id : Json
     asks Running o h =
         let again = replies s (error_reply id InvalidRequest (codes "initialized already")) in
         let down = replies (record s { stage = Down }) (result_reply id null) in
-        let answer = replies s (asked_reply o s id (asked_by method params)) in
+        let answer = replied s (asked_reply o s id (asked_by method params)) in
         elim (bytes_eq method (codes "initialize")) as (λ b.
         StillHeld (cond b again (cond (bytes_eq method (codes "shutdown")) down answer)).server) [
           | true ↦ all

@@ -10,9 +10,10 @@ use Rattle.cb_lsp.specs.declared.notice.FileEvent.TheVariants.{Written, Gone}
 use Rattle.cb_lsp.specs.declared.notice.Notice.{Notice}
 use Rattle.cb_lsp.specs.declared.notice.Notice.TheVariants.{Ready, Open, Change, Save, Close}
 use Rattle.cb_lsp.specs.declared.notice.Notice.TheVariants.{Files}
-use Rattle.cb_lsp.specs.Documents.{Oracle, behind_event, first_refusal, later}
+use Rattle.cb_lsp.specs.Documents.{Oracle, behind_event, first_found, first_refusal, later}
 use Rattle.cb_lsp.specs.Messages.{Serving, all_happened, bad_name, ends_as_c, happened, happened_as}
 use Rattle.cb_lsp.specs.Messages.{happened_at, happened_in, happened_to, is_opening, moved}
+use Rattle.cb_lsp.specs.Messages.{read_behind}
 use Rattle.cb_lsp.specs.Messages.{noticed_as, noticed_if, noticed_of, noticed_on}
 use Rattle.cb_lsp.specs.Messages.{registers, replies, show_of, stays, told_of, unread}
 use Rattle.cb_lsp.specs.Params.{event_of, items_in, member_of, text_in, uri_in}
@@ -71,7 +72,8 @@ module _ (notice : Notice) (o : Oracle) (s : Serving) (params : Option Json) whe
   on-keeps (Some path) =
       let name = name_below s.client.root.path path in
       elim (is_file_name name) as (λ b. Keeps s
-      (cond b (moved s name (told_of s.client.encoding notice o s.work params name))
+      (cond b (moved s name (read_behind notice (first_found o.found) s.work path name)
+      (told_of s.client.encoding notice o s.work params name))
       (bad_name s notice path)).server) [
         | true ↦ record { stage = refl; client = refl }
         | false ↦ elim (ends_as_c path && is_opening notice) as (λ b. Keeps s (cond b

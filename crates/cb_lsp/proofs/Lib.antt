@@ -11,6 +11,7 @@ pub mod Editors
 pub mod Events
 pub mod Exact
 pub mod FileSymbols
+pub mod Folding
 pub mod FromPlaces
 pub mod Headers
 pub mod HeldUnits

@@ -3,6 +3,7 @@ use Rattle.std.proofs.Common.{◌≡◌, ℕ, Bool, true, false, List, [], Optio
 use Rattle.std.proofs.Common.{Ok, Err, refl, sym, ap, ◌∙◌, subst, inr, append-nil}
 use Rattle.std.specs.Prelude.{codes}
 use Rattle.std.specs.Io.KnownBytes.{Appends, Keeps}
+use Rattle.std.specs.List.{AllByRecursion}
 use Rattle.std.proofs.KnownBytes.{Appends-nil}
 use Rattle.std.proofs.lemmas.Slice.Eq.{bytes_eq-Decides}
 use Rattle.json.specs.Json.{Json}
@@ -16,7 +17,7 @@ use Rattle.cb_wire.specs.Frames.{First, ReadsFrame, body, too_large as too_long}
 use Rattle.cb_lsp.specs.declared.server.Stage.{Stage}
 use Rattle.cb_lsp.specs.declared.server.Stage.TheVariants.{Fresh, Running, Down}
 use Rattle.cb_lsp.specs.declared.turn.Ending.{Ending}
-use Rattle.cb_lsp.specs.Documents.{Oracle}
+use Rattle.cb_lsp.specs.Documents.{Looked, Oracle}
 use Rattle.cb_lsp.specs.Messages.{Message, Outcome, Serving, does, is_exit, not_json, not_request}
 use Rattle.cb_lsp.specs.Messages.{notification, noticed_by, reply, request, stays, too_large}
 use Rattle.cb_lsp.specs.Bodies.{IsMessage, IsOf, Takes, Turn, is_last, outcome, refused}
@@ -66,11 +67,11 @@ Appends-kept (Some x) None c bytes p q = absurd p
 Appends-kept (Some x) (Some y) None bytes p q = absurd q
 Appends-kept (Some x) (Some y) (Some z) bytes p q = cc
 
-closes : (f : First) (s mid : Serving) (left : Reader) (t : Turn) (rest : List ℕ)
+closes : (finds : Looked → Type 0) (f : First) (s mid : Serving) (left : Reader) (t : Turn) (rest : List ℕ)
     (old between : Writer) → IsNext f t rest → left.bytes ≡ Some rest → is_last t ≡ true
     → mid ≡ (outcome s t).server → PutsAll old between (written_text (outcome s t).written)
-    → LeavesTurn f s mid left old between (Ok (Some (ending_at mid.stage)))
-closes f s mid left t rest old between next is last moved put =
+    → LeavesTurn finds f s mid left old between (Ok (Some (ending_at mid.stage)))
+closes finds f s mid left t rest old between next is last moved put =
     let out = last-stays t s last in
     let same : mid ≡ s = moved ∙ ap (λ (o : Outcome). o.server) out in
     let none : PutsAll old between [] =
@@ -82,39 +83,41 @@ closes f s mid left t rest old between next is last moved put =
       none.3 refl,
     )
 
-pub turn-left : (f : First) (s mid : Serving) (left : Reader) (t : Turn) (rest : List ℕ)
+pub turn-left : (finds : Looked → Type 0) (f : First) (s mid : Serving) (left : Reader) (t : Turn) (rest : List ℕ)
     (old between new : Writer) (r : Result Bool WriteFault)
     (result : Result (Option Ending) WriteFault) → IsNext f t rest → left.bytes ≡ Some rest
-    → Takes t s mid old between r → GoesOn mid.stage r between new result
-    → LeavesTurn f s mid left old new result
-turn-left f s mid left t rest old between new (Ok true) result next is takes goes =
-    let all = closes f s mid left t rest old between next is (sym takes.1) takes.0.0 takes.0.1 in
-    subst (λ w. LeavesTurn f s mid left old w result) (sym goes.1)
-    (subst (LeavesTurn f s mid left old between) (sym goes.0) all)
-turn-left f s mid left t rest old between new (Ok false) (Ok None) next is takes goes = (
+    → Takes finds t s mid old between r → GoesOn mid.stage r between new result
+    → LeavesTurn finds f s mid left old new result
+turn-left finds f s mid left t rest old between new (Ok true) result next is takes goes =
+    let all = closes finds f s mid left t rest old between next is (sym takes.1) takes.0.0.0
+    takes.0.0.1 in
+    subst (λ w. LeavesTurn finds f s mid left old w result) (sym goes.1)
+    (subst (LeavesTurn finds f s mid left old between) (sym goes.0) all)
+turn-left finds f s mid left t rest old between new (Ok false) (Ok None) next is takes goes = (
   t,
   rest,
   next,
   sym takes.1,
   is,
-  takes.0.0,
-  Appends-kept old.bytes between.bytes new.bytes (reply_text s t) takes.0.1.2 goes.0,
+  takes.0.0.0,
+  Appends-kept old.bytes between.bytes new.bytes (reply_text s t) takes.0.0.1.2 goes.0,
   goes.1,
+  takes.0.1,
 )
-turn-left f s mid left t rest old between new (Ok false) (Ok (Some how)) next is takes goes =
+turn-left finds f s mid left t rest old between new (Ok false) (Ok (Some how)) next is takes goes =
     absurd goes
-turn-left f s mid left t rest old between new (Ok false) (Err e) next is takes goes =
+turn-left finds f s mid left t rest old between new (Ok false) (Err e) next is takes goes =
     let part : AppendsPrefix old.bytes new.bytes (reply_text s t) = (
       reply_text s t,
       [],
       sym (append-nil (reply_text s t)),
-      Appends-kept old.bytes between.bytes new.bytes (reply_text s t) takes.0.1.2 goes.1,
+      Appends-kept old.bytes between.bytes new.bytes (reply_text s t) takes.0.0.1.2 goes.1,
     ) in
     (goes.0, (t, rest, next, part))
-turn-left f s mid left t rest old between new (Err fault) result next is takes goes =
-    subst (λ w. LeavesTurn f s mid left old w result) (sym goes.1)
-    (subst (LeavesTurn f s mid left old between) (sym goes.0)
-    (takes.0.1.0, (t, rest, next, takes.0.1.2)))
+turn-left finds f s mid left t rest old between new (Err fault) result next is takes goes =
+    subst (λ w. LeavesTurn finds f s mid left old w result) (sym goes.1)
+    (subst (LeavesTurn finds f s mid left old between) (sym goes.0)
+    (takes.0.0.1.0, (t, rest, next, takes.0.0.1.2)))
 
 -- ---- by what was read
 
@@ -139,14 +142,17 @@ is-unread f s left InputEnded r = r
 is-unread f s left Read r = r
 
 -- what was written is all that a turn does
-pub told : (t : Turn) (s : Serving) (old new : Writer) (r : Result (Unit {0}) WriteFault)
-    → is_last t ≡ false → s ≡ (outcome s t).server
-    → Puts old new r (written_text (outcome s t).written) → Takes t s s old new (going_on r)
-told t s old new (Ok u) is same put = ((same, put), sym is)
-told t s old new (Err e) is same put = ((tt, put), tt)
+pub told : (finds : Looked → Type 0) (t : Turn) (s : Serving) (old new : Writer)
+    (r : Result (Unit {0}) WriteFault) → is_last t ≡ false → s ≡ (outcome s t).server
+    → (outcome s t).read ≡ [] → Puts old new r (written_text (outcome s t).written)
+    → Takes finds t s s old new (going_on r)
+told finds t s old new (Ok u) is same none put =
+    (((same, put), subst (AllByRecursion finds) (sym none) tt), sym is)
+told finds t s old new (Err e) is same none put = (((tt, put), tt), tt)
 
 -- a run ends with nothing done
-pub ends-so : (f : First) (s : Serving) (left : Reader) (out : Writer) (how stated : Ending)
-    → how ≡ stated → IsEnd f s left stated → LeavesTurn f s s left out out (Ok (Some how))
-ends-so f s left out how stated e is =
+pub ends-so : (finds : Looked → Type 0) (f : First) (s : Serving) (left : Reader) (out : Writer)
+    (how stated : Ending) → how ≡ stated → IsEnd f s left stated
+    → LeavesTurn finds f s s left out out (Ok (Some how))
+ends-so finds f s left out how stated e is =
     (subst (IsEnd f s left) (sym e) is, refl, Appends-nil out.bytes, refl)

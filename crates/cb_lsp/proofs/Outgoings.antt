@@ -1,7 +1,7 @@
 -- What is called, as a reply.
 use Rattle.std.proofs.Common.{◌≡◌, ◌∙◌, ◌≤◌, ◌+◌, ◌-◌, ◌++◌, ℕ, zero, suc, Bool, true, false, List, []}
 use Rattle.std.proofs.Common.{◌<◌, ◌∷◌, refl, sym, subst, ap, arith, drop, get_or, length, map, take}
-use Rattle.std.specs.Prelude.{None, Some, Result, Ok, if◌then◌else◌}
+use Rattle.std.specs.Prelude.{None, Some, if◌then◌else◌}
 use Rattle.std.specs.List.{flat_map, prefix_len}
 use Rattle.std.specs.Option.{option_map}
 use Rattle.std.specs.Str.{bytes_eq}
@@ -13,25 +13,19 @@ use Rattle.cb_desk.specs.Scanned.{ScannedText, scanned_by, scanned_named}
 use Rattle.cb_desk.specs.World.{World, has_file, text_of_file}
 use Rattle.cb_scan.specs.declared.facts.Call.{Call}
 use Rattle.cb_scan.specs.TextFacts.{TextFacts}
-use Rattle.cb_tags.specs.Writers.{Writer}
-use Rattle.cb_tags.specs.Writing.{Puts}
 use Rattle.cb_wire.specs.declared.position.Position.{Position}
 use Rattle.cb_wire.specs.Positions.{place}
-use Rattle.cb_wire.specs.Texts.{frame}
-use Rattle.cb_wire.specs.Uris.{name_below, path_of}
-use Rattle.cb_wire.specs.Values.{value_text}
-use Rattle.cb_lsp.specs.Answers.{list_of, name_of_uri, outgoing_named}
+use Rattle.cb_lsp.specs.Answers.{list_of, outgoing_named}
 use Rattle.cb_lsp.specs.Calls.{cut_by}
 use Rattle.cb_lsp.specs.Clients.{Client}
-use Rattle.cb_lsp.specs.Messages.{Serving, asked_reply, result_unless}
+use Rattle.cb_lsp.specs.Messages.{Serving}
 use Rattle.cb_lsp.specs.Outgoing.{Callee, Group, by_name, callees_by, have_one_name, outgoing_calls}
 use Rattle.cb_lsp.specs.Outgoing.{told_by_name}
 use Rattle.cb_lsp.specs.Questions.{outgoing}
 use Rattle.cb_lsp.specs.declared.outgoing.CalleeGroup.{CalleeGroup}
 use Rattle.cb_lsp.specs.declared.outgoing.CalleeRow.{CalleeRow}
 use Rattle.cb_lsp.specs.steps.Outgoing.{FirstGroup, callee_in, callee_rows, group_in}
-use Rattle.cb_lsp.specs.steps.Works.{only}
-use Rattle.cb_lsp.proofs.Asked.{facts-there}
+use Rattle.cb_lsp.proofs.Asked.{Tells, facts-there}
 use Rattle.cb_lsp.proofs.CallGroups.{IsAlike, cut-front, drop-map, mapped, taken}
 
 -- two calls of one name have it in common with the same ones
@@ -169,41 +163,8 @@ outgoing-missing c w name file p missing =
       | false ↦ λ k. refl
     ]) missing
 
-unless-asked : (no_memory : Bool) (s : Serving) (id : Json) (name uri : List ℕ) (p : Position)
-    → result_unless no_memory id
-    (outgoing_named s.client s.work.world name p (name_of_uri s.client uri))
-    ≡ asked_reply (only no_memory) s id (Ok (outgoing name uri p))
-unless-asked true s id name uri p = refl
-unless-asked false s id name uri p = refl
-
--- the file of a URI
-pub puts-outgoing : {A E : Type 0} (no_memory : Bool) (s inside : Serving) (c : Client)
-    (w : World) (name bytes uri path file : List ℕ) (p : Position) (id : Json)
-    (before after : Writer) (r : Result A E) → inside ≡ s → c ≡ inside.client
-    → w ≡ inside.work.world → bytes ≡ name → Some path ≡ path_of uri
-    → file ≡ name_below inside.client.root.path path
-    → Puts before after r
-    (frame (value_text (result_unless no_memory id (outgoing_named c w bytes p (Some file)))))
-    → Puts before after r
-    (frame (value_text (asked_reply (only no_memory) s id (Ok (outgoing name uri p)))))
-puts-outgoing no_memory s inside c w name bytes uri path file p id before after r is c-is w-is
-    name-is found file-is put =
-    let named : Some file ≡ name_of_uri inside.client uri =
-    ap Some file-is ∙ ap (option_map (name_below inside.client.root.path)) found in
-    let same : outgoing_named c w bytes p (Some file)
-    ≡ outgoing_named s.client s.work.world name p (name_of_uri s.client uri) =
-    (λ i. outgoing_named (c-is i) (w-is i) (name-is i) p (named i))
-    ∙ ap (λ (x : Serving). outgoing_named x.client x.work.world name p (name_of_uri x.client uri))
-    is in
-    subst (λ j. Puts before after r (frame (value_text j)))
-    (ap (result_unless no_memory id) same ∙ unless-asked no_memory s id name uri p) put
-
-pub puts-outgoing-nowhere : {A E : Type 0} (s : Serving) (name uri : List ℕ) (p : Position)
-    (id : Json) (before after : Writer) (r : Result A E) → None ≡ path_of uri
-    → Puts before after r (frame (value_text (result_unless false id null)))
-    → Puts before after r
-    (frame (value_text (asked_reply (only false) s id (Ok (outgoing name uri p)))))
-puts-outgoing-nowhere s name uri p id before after r none put =
-    subst (λ n. Puts before after r
-    (frame (value_text (result_unless false id (outgoing_named s.client s.work.world name p n)))))
-    (ap (option_map (name_below s.client.root.path)) none) put
+-- what is told of the file of a URI
+pub outgoing-tells : (no_memory : Bool) (s : Serving) (id : Json) (name uri : List ℕ) (p : Position)
+    → Tells (λ c w file. outgoing_named c w name p file) no_memory s id uri (outgoing name uri p)
+outgoing-tells true s id name uri p = refl
+outgoing-tells false s id name uri p = refl

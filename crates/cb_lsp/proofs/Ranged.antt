@@ -112,9 +112,6 @@ places-in_order e text start end p =
 
 -- ---- lines
 
-whole-in_order : (e : Encoding) (n : ℕ) (shown : List ℕ) → IsInOrder (whole_line e n shown)
-whole-in_order e n shown = inr (refl, omega arith)
-
 pub line-in_order : (e : Encoding) (text : List ℕ) (n : ℕ) → IsInOrder (range_of_line e text n)
 line-in_order e text n = inr (refl, omega arith)
 

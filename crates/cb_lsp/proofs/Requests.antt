@@ -1,5 +1,5 @@
 -- What requests lead to.
-use Rattle.std.proofs.Common.{◌≡◌, ℕ, Bool, true, false, List}
+use Rattle.std.proofs.Common.{◌≡◌, ℕ, Bool, true, false, List, [], refl}
 use Rattle.std.specs.Prelude.{codes, Option, Ok, Err}
 use Rattle.std.specs.Str.{bytes_eq}
 use Rattle.json.specs.Json.{Json, null}
@@ -10,7 +10,8 @@ use Rattle.cb_lsp.specs.declared.question.Unasked.{Unasked}
 use Rattle.cb_lsp.specs.declared.server.Stage.{Stage}
 use Rattle.cb_lsp.specs.declared.server.Stage.TheVariants.{Fresh, Down}
 use Rattle.cb_lsp.specs.Documents.{Oracle}
-use Rattle.cb_lsp.specs.Messages.{Serving, asked_reply, initialized, replies, requested, running}
+use Rattle.cb_lsp.specs.Messages.{Serving, asked_reply, initialized, replied, replies, requested}
+use Rattle.cb_lsp.specs.Messages.{running}
 use Rattle.cb_lsp.specs.Messages.{unasked_reply}
 use Rattle.cb_lsp.specs.Questions.{Asked, asked_by}
 use Rattle.cb_lsp.specs.steps.Works.{only}
@@ -37,8 +38,14 @@ pub running-asked : (o : Oracle) (s : Serving) (id : Json) (method : List ℕ)
     (params : Option Json) (asked : Asked)
     → bytes_eq method (codes "initialize") ≡ false → bytes_eq method (codes "shutdown") ≡ false
     → Ok asked ≡ asked_by method params
-    → replies s (asked_reply o s id (Ok asked)) ≡ running o s id method params
+    → replied s (asked_reply o s id (Ok asked)) ≡ running o s id method params
 running-asked o s id method params asked other up is = rw (other, up, ← is)
+
+-- nothing is read where a client says what it takes
+pub nothing-begun : (m : Bool) (s : Serving) (id : Json) (params : Option Json)
+    → (initialized m s id params).read ≡ []
+nothing-begun true s id params = refl
+nothing-begun false s id params = refl
 
 pub requested-first : (stage : Stage) (m : Bool) (s : Serving) (id : Json) (method : List ℕ)
     (params : Option Json) → stage ≡ Fresh → bytes_eq method (codes "initialize") ≡ true

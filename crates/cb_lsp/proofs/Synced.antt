@@ -37,7 +37,8 @@ use Rattle.cb_lsp.specs.Messages.{ends_as_c, fresh_server, happened, happened_as
 use Rattle.cb_lsp.specs.Messages.{happened_in, happened_to, is_opening, may_enter, moved, notice_of}
 use Rattle.cb_lsp.specs.Messages.{noticed_as, noticed_by, noticed_if, noticed_of, noticed_on}
 use Rattle.cb_lsp.specs.Messages.{not_json, not_request, notification, opened_with, registers}
-use Rattle.cb_lsp.specs.Messages.{reply, replies, request, show_of, stays, told_of, too_large}
+use Rattle.cb_lsp.specs.Messages.{read_behind, reply, replies, request, show_of, stays, told_of}
+use Rattle.cb_lsp.specs.Messages.{too_large}
 use Rattle.cb_lsp.specs.Params.{changes_in, document_text, event_of, items_in, member_of}
 use Rattle.cb_lsp.specs.Params.{text_in, uri_in}
 use Rattle.cb_lsp.specs.Sync.{AreInSync, Arrived, DocumentsStayInSync, Sent, after_all, arrives}
@@ -558,7 +559,8 @@ module _ (s : Serving) (sent : Sent) (good : Good s.work sent) where
   at-good fs notice params (Some path) =
       let name = name_below s.client.root.path path in
       elim (is_file_name name) as (λ b. Good
-      (cond b (moved s name (told_of s.client.encoding notice (granted fs) s.work params name))
+      (cond b (moved s name (read_behind notice (first_found fs) s.work path name)
+      (told_of s.client.encoding notice (granted fs) s.work params name))
       (bad_name s notice path)).server.work
       (sent_of in_bytes s.client.encoding sent notice params (cond b (Some name) None))) [
         | true ↦ tells s.work sent good fs s.client.encoding notice params name

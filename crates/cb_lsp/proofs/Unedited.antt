@@ -1,18 +1,34 @@
--- The files of uses that are not edited, found use by use.
-use Rattle.std.proofs.Common.{◌≡◌, ◌∙◌, not, sym, ap, refl, ℕ, Bool, true, false, List, [], ◌∷◌}
-use Rattle.std.proofs.Common.{map, take, if◌then◌else◌}
-use Rattle.std.specs.Prelude.{Option, None, Some}
+-- The files of uses, looked at use by use.
+use Rattle.std.proofs.Common.{◌≡◌, ◌∙◌, not, sym, ap, subst, refl, ℕ, Bool, true, false, List, []}
+use Rattle.std.proofs.Common.{◌∷◌, ◌++◌, map, take, if◌then◌else◌, append_assoc}
+use Rattle.std.specs.Prelude.{Option, None, Some, Result, Err}
+use Rattle.std.specs.List.{AllByRecursion}
+use Rattle.std.specs.Option.{option_map}
 use Rattle.std.specs.Str.{bytes_eq}
-use Rattle.cb_desk.specs.World.{text_of_file}
+use Rattle.json.specs.Json.{Json}
+use Rattle.cb_desk.specs.World.{File, text_of_file}
 use Rattle.cb_index.specs.Rows.{Fact}
-use Rattle.cb_lsp.specs.Documents.{Document, Oracle, Reading, Work, document_of, is_open}
-use Rattle.cb_lsp.specs.Documents.{later_found, later_refusals, was_lost}
-use Rattle.cb_lsp.specs.Renames.{Unrenamed, behind_file, files_of, first_unedited, or_reason}
-use Rattle.cb_lsp.specs.Renames.{unedited, unless_found, unless_lost, unless_read}
+use Rattle.cb_tags.specs.Writers.{Writer}
+use Rattle.cb_tags.specs.Writing.{Puts}
+use Rattle.cb_wire.specs.Texts.{frame}
+use Rattle.cb_wire.specs.Trees.{result_reply}
+use Rattle.cb_wire.specs.Uris.{path_below}
+use Rattle.cb_wire.specs.Values.{value_text}
+use Rattle.cb_lsp.specs.Answers.{answer_reply, reply_with}
+use Rattle.cb_lsp.specs.Bodies.{Replies}
+use Rattle.cb_lsp.specs.Clients.{Client}
+use Rattle.cb_lsp.specs.Documents.{Document, Looked, Oracle, Reading, Work, behind_reading, is_open}
+use Rattle.cb_lsp.specs.Documents.{looked_at}
+use Rattle.cb_lsp.specs.Renames.{Check, Unrenamed, all_edits, behind_file, check, check_more}
+use Rattle.cb_lsp.specs.Renames.{check_open, check_read, checks, files_of, no_memory, ok_unless}
+use Rattle.cb_lsp.specs.Renames.{renamed_if, then_check, unless_found}
+use Rattle.cb_lsp.specs.declared.rename.Unedited.{Unedited}
 use Rattle.cb_lsp.specs.steps.References.{UsesAreByPlace}
-use Rattle.cb_lsp.specs.steps.Renames.{behind_if, is_last_of, unedited_if, unedited_of_uses}
+use Rattle.cb_lsp.specs.steps.Renames.{Tells, behind_if, check_if, checks_of_uses, is_last_of}
+use Rattle.cb_lsp.specs.steps.Renames.{reason_of}
 use Rattle.cb_lsp.specs.steps.Works.{one_change}
 use Rattle.cb_lsp.proofs.EditGroups.{Groups, behind, by_file, cut, cut-by-file}
+use Rattle.cb_lsp.proofs.Events.{all-joined}
 use Rattle.cb_lsp.proofs.Notices.{quiet}
 use Rattle.cb_lsp.proofs.UsesReached.{uses-by-file}
 
@@ -39,26 +55,26 @@ names-by-file : (us : List Fact) (fs : List (List ℕ)) → names (by_file us fs
 names-by-file us [] = refl
 names-by-file us (f ∷ fs) = ap (λ gs. f ∷ gs) (names-by-file us fs)
 
-walked : (o : Oracle) (w : Work) (opens : Bool) (us : List Fact)
-    → unedited_of_uses o w opens us ≡ first_unedited o w (names_from opens (cut us))
-unfolding unedited_of_uses first_unedited cut
-walked o w opens [] = refl
-walked o w true (u ∷ []) = refl
-walked o w false (u ∷ []) = refl
-walked o w true (u ∷ v ∷ vs) =
+walked : (o : Oracle) (c : Client) (w : Work) (opens : Bool) (us : List Fact)
+    → checks_of_uses o c w opens us ≡ checks o c w (names_from opens (cut us))
+unfolding checks_of_uses checks cut
+walked o c w opens [] = refl
+walked o c w true (u ∷ []) = refl
+walked o c w false (u ∷ []) = refl
+walked o c w true (u ∷ v ∷ vs) =
     let next = behind_file w.documents u.file o in
-    ap (or_reason (unedited o w u.file))
-    (walked next w (not (bytes_eq v.file u.file)) (v ∷ vs)
-    ∙ ap (first_unedited next w) (names-next (bytes_eq v.file u.file) _ (behind v.file (cut vs))))
-walked o w false (u ∷ v ∷ vs) =
-    walked o w (not (bytes_eq v.file u.file)) (v ∷ vs)
-    ∙ ap (first_unedited o w) (names-next (bytes_eq v.file u.file) _ (behind v.file (cut vs)))
+    ap (then_check (check o c w u.file))
+    (walked next c w (not (bytes_eq v.file u.file)) (v ∷ vs)
+    ∙ ap (checks next c w) (names-next (bytes_eq v.file u.file) _ (behind v.file (cut vs))))
+walked o c w false (u ∷ v ∷ vs) =
+    walked o c w (not (bytes_eq v.file u.file)) (v ∷ vs)
+    ∙ ap (checks o c w) (names-next (bytes_eq v.file u.file) _ (behind v.file (cut vs)))
 
-pub unedited-by-file : (o : Oracle) (w : Work) (us : List Fact) → UsesAreByPlace us
-    → unedited_of_uses o w true us ≡ first_unedited o w (files_of us)
-unedited-by-file o w us order =
-    walked o w true us
-    ∙ ap (first_unedited o w) (names-all (cut us)
+pub checks-by-file : (o : Oracle) (c : Client) (w : Work) (us : List Fact) → UsesAreByPlace us
+    → checks_of_uses o c w true us ≡ checks o c w (files_of us)
+checks-by-file o c w us order =
+    walked o c w true us
+    ∙ ap (checks o c w) (names-all (cut us)
     ∙ ap names (cut-by-file us (uses-by-file us order)) ∙ names-by-file us (files_of us))
 
 -- ---- what is decided for a file, before what is decided for more
@@ -70,93 +86,169 @@ decided opens is_open no_path found more =
       found = found ∷ more.found;
     }) else more
 
-decided-here : (opens n : Bool) (f : Reading) (more : Oracle) (w : Work) (file : List ℕ)
-    → unedited_if opens (decided opens (is_open w.documents file) n f more) w file
-    ≡ unedited_if opens (one_change n f) w file
-decided-here false n f more w file = refl
-decided-here true n f more w file =
-    let text = text_of_file w.world.files file in
-    let lost = unless_lost (was_lost (document_of w.documents file)) file in
+decided-here : (opens n : Bool) (f : Reading) (more : Oracle) (c : Client) (w : Work)
+    (file : List ℕ) → check_if opens (decided opens (is_open w.documents file) n f more) c w file
+    ≡ check_if opens (one_change n f) c w file
+decided-here false n f more c w file = refl
+decided-here true n f more c w file =
+    let path = path_below c.root.path file in
     elim (is_open w.documents file) as (λ b.
-    (if b then lost else unless_read (decided true b n f more) file text)
-    ≡ (if b then lost else unless_read (one_change n f) file text)) [ true ↦ refl | false ↦ refl ]
+    (if b then check_open w.documents file else check_read (decided true b n f more) w.world path file)
+    ≡ (if b then check_open w.documents file else check_read (one_change n f) w.world path file))
+    [ true ↦ refl | false ↦ refl ]
 
 decided-behind : (opens n : Bool) (f : Reading) (more : Oracle) (ds : List Document)
     (file : List ℕ) → behind_if opens ds file (decided opens (is_open ds file) n f more) ≡ more
 decided-behind false n f more ds file = refl
 decided-behind true n f more ds file =
     let o = λ (b : Bool). decided true b n f more in
-    elim (is_open ds file) as (λ b. (if b then o b else record {
-      refusals = later_refusals (o b).refusals;
-      found = later_found (o b).found;
-    }) ≡ more) [ true ↦ refl | false ↦ refl ]
+    elim (is_open ds file) as (λ b. (if b then o b else behind_reading (o b)) ≡ more)
+    [ true ↦ refl | false ↦ refl ]
 
 -- ---- the walk
 
--- the files of the uses up to those that are left are edited; whatever is decided for the others
-abbrev pub EditedSo : Work → (start left : List Fact) → (opens : Bool) → Type 0
-EditedSo w start left opens =
-    (more : Oracle) → (all : Oracle)
-    × (unedited_of_uses all w true start ≡ unedited_of_uses more w opens left)
+-- what was read, before what is read for more
+abbrev behind_reads : List Looked → Check → Check
+behind_reads read k = record { why = k.why; read = read ++ k.read }
 
-pub so-begun : (w : Work) (us : List Fact) → EditedSo w us us true
-so-begun w us = λ more. (more, refl)
+-- the files of the uses up to those that are left are edited; whatever is decided for the others
+abbrev pub EditedSo : (finds : Looked → Type 0) → Client → Work → (start left : List Fact)
+    → (opens : Bool) → Type 0
+EditedSo finds c w start left opens =
+    (read : List Looked) × AllByRecursion finds read × ((more : Oracle) → (all : Oracle)
+    × (checks_of_uses all c w true start ≡ behind_reads read (checks_of_uses more c w opens left)))
+
+pub so-begun : (finds : Looked → Type 0) (c : Client) (w : Work) (us : List Fact)
+    → EditedSo finds c w us us true
+so-begun finds c w us = ([], tt, λ more. (more, refl))
 
 last-one : (file : List ℕ) (us : List Fact) → is_last_of file (take 1 us) ≡ is_last_of file us
 last-one file [] = refl
 last-one file (u ∷ us) = refl
 
 -- a use more, by what its file comes to
-at-use : (w : Work) (start left rest : List Fact) (u : Fact) (opens n : Bool) (f : Reading)
-    (reason : Option Unrenamed) (more : Oracle) → EditedSo w start left opens → left ≡ u ∷ rest
-    → reason ≡ unedited_if opens (one_change n f) w u.file
-    → (all : Oracle) × (unedited_of_uses all w true start
-    ≡ or_reason reason (unedited_of_uses more w (is_last_of u.file rest) rest))
-unfolding unedited_of_uses
-at-use w start left rest u opens n f reason more so_far is why =
+at-use : (finds : Looked → Type 0) (c : Client) (w : Work) (start left rest : List Fact) (u : Fact)
+    (opens n : Bool) (f : Reading) (why : Option Unrenamed) (more : Oracle)
+    (so_far : EditedSo finds c w start left opens) → left ≡ u ∷ rest
+    → why ≡ (check_if opens (one_change n f) c w u.file).why
+    → (all : Oracle) × (checks_of_uses all c w true start ≡ behind_reads so_far.0
+    (check_more (check_if opens (one_change n f) c w u.file).read why
+    (checks_of_uses more c w (is_last_of u.file rest) rest)))
+unfolding checks_of_uses
+at-use finds c w start left rest u opens n f why more so_far is told =
     let o = decided opens (is_open w.documents u.file) n f more in
-    let all = so_far o in (
+    let k = check_if opens (one_change n f) c w u.file in
+    let all = so_far.2 o in (
       all.0,
-      all.1 ∙ ap (unedited_of_uses o w opens) is
-          ∙ (λ i. or_reason ((decided-here opens n f more w u.file ∙ sym why) i)
-          (unedited_of_uses (decided-behind opens n f more w.documents u.file i) w
-          (is_last_of u.file rest) rest)),
+      all.1 ∙ ap (λ us. behind_reads so_far.0 (checks_of_uses o c w opens us)) is
+          ∙ (λ i. behind_reads so_far.0 (then_check (decided-here opens n f more c w u.file i)
+          (checks_of_uses (decided-behind opens n f more w.documents u.file i) c w
+          (is_last_of u.file rest) rest)))
+          ∙ ap (λ y. behind_reads so_far.0 (check_more k.read y
+          (checks_of_uses more c w (is_last_of u.file rest) rest))) (sym told),
     )
 
-pub so-edited : (w : Work) (start left rest : List Fact) (u : Fact) (opens next n : Bool)
-    (f : Reading) → EditedSo w start left opens → left ≡ u ∷ rest
-    → None ≡ unedited_if opens (one_change n f) w u.file
-    → next ≡ is_last_of u.file (take 1 rest) → EditedSo w start rest next
-so-edited w start left rest u opens next n f so_far is why last = λ more.
-    let all = at-use w start left rest u opens n f None more so_far is why in
-    (all.0, all.1 ∙ ap (λ b. unedited_of_uses more w b rest) (sym (last ∙ last-one u.file rest)))
+pub so-edited : (finds : Looked → Type 0) (c : Client) (w : Work) (start left rest : List Fact)
+    (u : Fact) (opens next n : Bool) (f : Reading) → EditedSo finds c w start left opens
+    → left ≡ u ∷ rest → None ≡ (check_if opens (one_change n f) c w u.file).why
+    → AllByRecursion finds (check_if opens (one_change n f) c w u.file).read
+    → next ≡ is_last_of u.file (take 1 rest) → EditedSo finds c w start rest next
+so-edited finds c w start left rest u opens next n f so_far is told found last =
+    let k = check_if opens (one_change n f) c w u.file in (
+      so_far.0 ++ k.read,
+      all-joined finds so_far.0 k.read so_far.1 found,
+      λ more.
+          let all = at-use finds c w start left rest u opens n f None more so_far is told in
+          let b = is_last_of u.file rest in
+          let end = checks_of_uses more c w b rest in (
+            all.0,
+            all.1
+                ∙ (λ i. record { why = end.why; read = sym (append_assoc so_far.0 k.read end.read) i })
+                ∙ ap (λ b. behind_reads (so_far.0 ++ k.read) (checks_of_uses more c w b rest))
+                (sym (last ∙ last-one u.file rest)),
+          ),
+    )
 
-pub so-stays : (w : Work) (start left rest : List Fact) (u : Fact) (opens n : Bool)
-    (f : Reading) (reason : Unrenamed) → EditedSo w start left opens → UsesAreByPlace start
-    → left ≡ u ∷ rest → Some reason ≡ unedited_if opens (one_change n f) w u.file
-    → (o : Oracle) × (Some reason ≡ first_unedited o w (files_of start))
-so-stays w start left rest u opens n f reason so_far order is why =
-    let all = at-use w start left rest u opens n f (Some reason) quiet so_far is why in
-    (all.0, sym all.1 ∙ unedited-by-file all.0 w start order)
-
-pub so-ends : (w : Work) (start left : List Fact) (opens : Bool) → EditedSo w start left opens
-    → UsesAreByPlace start → left ≡ []
-    → (o : Oracle) × (None ≡ first_unedited o w (files_of start))
-unfolding unedited_of_uses
-so-ends w start left opens so_far order none =
-    let all = so_far quiet in (
+pub so-stays : (finds : Looked → Type 0) (c : Client) (w : Work) (start left rest : List Fact)
+    (u : Fact) (opens n : Bool) (f : Reading) (result : Option Unedited) (why : Unrenamed)
+    → EditedSo finds c w start left opens → UsesAreByPlace start → left ≡ u ∷ rest
+    → Some why ≡ (check_if opens (one_change n f) c w u.file).why
+    → AllByRecursion finds (check_if opens (one_change n f) c w u.file).read
+    → option_map reason_of result ≡ Some why
+    → (o : Oracle) × Tells finds (checks o c w (files_of start)) result
+so-stays finds c w start left rest u opens n f result why so_far order is told found said =
+    let k = check_if opens (one_change n f) c w u.file in
+    let all = at-use finds c w start left rest u opens n f (Some why) quiet so_far is told in
+    let same = sym all.1 ∙ checks-by-file all.0 c w start order in (
       all.0,
-      sym (all.1 ∙ ap (unedited_of_uses quiet w opens) none)
-          ∙ unedited-by-file all.0 w start order,
+      subst (λ x. Tells finds x result) same
+          (said, all-joined finds so_far.0 k.read so_far.1 found),
+    )
+
+pub so-ends : (finds : Looked → Type 0) (c : Client) (w : Work) (start left : List Fact)
+    (opens : Bool) → EditedSo finds c w start left opens → UsesAreByPlace start → left ≡ []
+    → (o : Oracle) × Tells finds (checks o c w (files_of start)) None
+unfolding checks_of_uses
+so-ends finds c w start left opens so_far order none =
+    let all = so_far.2 quiet in
+    let same = sym (all.1
+    ∙ ap (λ us. behind_reads so_far.0 (checks_of_uses quiet c w opens us)) none)
+    ∙ checks-by-file all.0 c w start order in (
+      all.0,
+      subst (λ x. Tells finds x None) same (refl, all-joined finds so_far.0 [] so_far.1 tt),
     )
 
 -- ---- one file
 
--- a file that is not open is read
-pub unedited-found : (f : Reading) (w : Work) (file : List ℕ) (why : Option Unrenamed)
-    → is_open w.documents file ≡ false
-    → why ≡ unless_found file (text_of_file w.world.files file) f
-    → why ≡ unedited (one_change false f) w file
-unedited-found f w file why closed found =
-    found ∙ ap (λ b. if b then unless_lost (was_lost (document_of w.documents file)) file
-    else unless_found file (text_of_file w.world.files file) f) (sym closed)
+pub check-open : (finds : Looked → Type 0) (o : Oracle) (c : Client) (w : Work) (file : List ℕ)
+    (result : Option Unedited) → is_open w.documents file ≡ true
+    → option_map reason_of result ≡ (check_open w.documents file).why
+    → Tells finds (check o c w file) result
+check-open finds o c w file result is said =
+    subst (λ b. Tells finds (if b then check_open w.documents file
+    else check_read o w.world (path_below c.root.path file) file) result) (sym is) (said, tt)
+
+pub check-refused : (finds : Looked → Type 0) (f : Reading) (c : Client) (w : Work)
+    (file : List ℕ) (result : Option Unedited) → is_open w.documents file ≡ false
+    → option_map reason_of result ≡ Some no_memory
+    → Tells finds (check (one_change true f) c w file) result
+check-refused finds f c w file result is said =
+    subst (λ b. Tells finds (if b then check_open w.documents file
+    else check_read (one_change true f) w.world (path_below c.root.path file) file) result)
+    (sym is) (said, tt)
+
+pub check-found : (finds : Looked → Type 0) (f : Reading) (c : Client) (w : Work)
+    (file : List ℕ) (result : Option Unedited) → is_open w.documents file ≡ false
+    → option_map reason_of result ≡ unless_found file (text_of_file w.world.files file) f
+    → finds (looked_at w.world (path_below c.root.path file) f)
+    → Tells finds (check (one_change false f) c w file) result
+check-found finds f c w file result is said found =
+    subst (λ b. Tells finds (if b then check_open w.documents file
+    else check_read (one_change false f) w.world (path_below c.root.path file) file) result)
+    (sym is) (said, (found, tt))
+
+-- ---- the reply
+
+-- a file is not edited
+pub renamed-so : {A E : Type 0} (finds : Looked → Type 0) (k : Check) (c : Client)
+    (files : List File) (new : List ℕ) (us : List Fact) (why : Unrenamed) (id : Json)
+    (before after : Writer) (r : Result A E) → (Some why ≡ k.why) × AllByRecursion finds k.read
+    → Puts before after r (frame (value_text (answer_reply id (Err why))))
+    → Replies finds (reply_with id (renamed_if c files new us k)) before after r
+renamed-so finds k c files new us why id before after r told put = (
+  subst (λ y. Puts before after r (frame (value_text (answer_reply id
+      (ok_unless (all_edits c files new us) y))))) told.0 put,
+  told.1,
+)
+
+-- each file is edited
+pub renamed-none : {A E : Type 0} (finds : Looked → Type 0) (k : Check) (c : Client)
+    (files : List File) (new : List ℕ) (us : List Fact) (id : Json) (before after : Writer)
+    (r : Result A E) → (None ≡ k.why) × AllByRecursion finds k.read
+    → Puts before after r (frame (value_text (result_reply id (all_edits c files new us))))
+    → Replies finds (reply_with id (renamed_if c files new us k)) before after r
+renamed-none finds k c files new us id before after r told put = (
+  subst (λ y. Puts before after r (frame (value_text (answer_reply id
+      (ok_unless (all_edits c files new us) y))))) told.0 put,
+  told.1,
+)

@@ -21,7 +21,7 @@ use Rattle.cb_lsp.specs.Documents.{first_refusal, given, given_found, gone, hold
 use Rattle.cb_lsp.specs.Documents.{is_renewed, kept_text, later_refusals, no_room, opened_if}
 use Rattle.cb_lsp.specs.Documents.{saved_as, taken, text_of_document, text_step, unreadable, without}
 use Rattle.cb_lsp.specs.Messages.{Serving, asked_reply, does, initialized, opened_with}
-use Rattle.cb_lsp.specs.Messages.{replies, requested, running}
+use Rattle.cb_lsp.specs.Messages.{replied, replies, requested, running}
 use Rattle.cb_lsp.specs.Params.{changes_in, document_text}
 use Rattle.cb_lsp.specs.Questions.{asked_by}
 use Rattle.cb_lsp.specs.Sync.{LeavesFiles, RequestsChangeNothing, WhatIsToldChangedNothing}
@@ -143,7 +143,7 @@ module _ (s : Serving) (id : Json) (method : List ℕ) (params : Option Json) wh
   runs o =
       let again = replies s (error_reply id InvalidRequest (codes "initialized already")) in
       let down = replies (record s { stage = Down }) (result_reply id null) in
-      let answer = replies s (asked_reply o s id (asked_by method params)) in
+      let answer = replied s (asked_reply o s id (asked_by method params)) in
       elim (bytes_eq method (codes "initialize")) as (λ b.
       (cond b again (cond (bytes_eq method (codes "shutdown")) down answer)).server.work
       ≡ s.work) [

@@ -21,7 +21,8 @@ use Rattle.cb_wire.specs.declared.list.TheConstants.{MOST_ELEMENTS}
 use Rattle.cb_lsp.specs.Calls.{callables, incoming_calls, item_of}
 use Rattle.cb_lsp.specs.Clients.{Client}
 use Rattle.cb_lsp.specs.Completions.{completing, completions_of, word_before}
-use Rattle.cb_lsp.specs.Documents.{Oracle, Work}
+use Rattle.cb_lsp.specs.Documents.{Looked, Oracle, Work}
+use Rattle.cb_lsp.specs.Folds.{folds_in}
 use Rattle.cb_lsp.specs.Headers.{header_at, header_files}
 use Rattle.cb_lsp.specs.Highlights as marked
 use Rattle.cb_lsp.specs.Highlights.{highlight}
@@ -29,14 +30,16 @@ use Rattle.cb_lsp.specs.Hovers.{hover_of, hover_texts}
 use Rattle.cb_lsp.specs.Meaning.{meaning}
 use Rattle.cb_lsp.specs.Places.{range_of}
 use Rattle.cb_lsp.specs.Outgoing.{outgoing_calls}
-use Rattle.cb_lsp.specs.Questions.{Asked, in_file, incoming, outgoing, rename, workspace_symbols}
+use Rattle.cb_lsp.specs.Questions.{Asked, folds, in_file, incoming, outgoing, rename}
+use Rattle.cb_lsp.specs.Questions.{workspace_symbols}
 use Rattle.cb_lsp.specs.declared.question.FileQuestion.{FileQuestion}
 use Rattle.cb_lsp.specs.declared.question.FileQuestion.TheVariants.{Symbols, Definition, Hover}
 use Rattle.cb_lsp.specs.declared.question.FileQuestion.TheVariants.{Highlights, References}
 use Rattle.cb_lsp.specs.declared.question.FileQuestion.TheVariants.{Callables, PrepareRename}
 use Rattle.cb_lsp.specs.declared.question.FileQuestion.TheVariants.{Completions}
 use Rattle.cb_lsp.specs.References.{references}
-use Rattle.cb_lsp.specs.Renames.{Unrenamed, prepared, renamable_at, renamed_at, unrenamed_text}
+use Rattle.cb_lsp.specs.Renames.{Answered, Unrenamed, prepared, renamable_at, renamed_at, unread}
+use Rattle.cb_lsp.specs.Renames.{unrenamed_text}
 use Rattle.cb_lsp.specs.Searches.{found_by}
 use Rattle.cb_lsp.specs.Symbols.{file_place, file_symbol, place_of, place_of_use}
 use Rattle.cb_lsp.specs.Symbols.{session_symbol}
@@ -145,20 +148,39 @@ outgoing_named c w name p (Some file) =
     if has_file w.files file
     then list_of (outgoing_calls c w file (text_of_file w.files file) name p) else null
 
+-- what is folded of the file of this name, if there is one
+abbrev pub folds_named : World → Option (List ℕ) → Json
+folds_named w None = null
+folds_named w (Some file) =
+    if has_file w.files file
+    then list_of (folds_in w.profile.rules (text_of_file w.files file)) else null
+
 -- the name of the file of a URI
 abbrev pub name_of_uri : Client → List ℕ → Option (List ℕ)
 name_of_uri c uri = option_map (name_below c.root.path) (path_of uri)
 
 -- the answer to a question; a name that is asked to be changed may have to stay
-abbrev pub answer_to : Oracle → Client → Work → Asked → Result Json Unrenamed
-answer_to o c w (in_file uri question) = Ok (answer_named c w.world question (name_of_uri c uri))
+abbrev pub answer_to : Oracle → Client → Work → Asked → Answered
+answer_to o c w (in_file uri question) =
+    unread (Ok (answer_named c w.world question (name_of_uri c uri)))
 answer_to o c w (workspace_symbols query) =
-    Ok (array (items_of (map (session_symbol c w.world.files) (found_by w.world query))))
+    unread (Ok (array (items_of (map (session_symbol c w.world.files) (found_by w.world query)))))
 answer_to o c w (rename uri position new) = renamed_at o c w position new (name_of_uri c uri)
-answer_to o c w (incoming name uri) = Ok (incoming_named c w.world name (name_of_uri c uri))
-answer_to o c w (outgoing name uri p) = Ok (outgoing_named c w.world name p (name_of_uri c uri))
+answer_to o c w (incoming name uri) =
+    unread (Ok (incoming_named c w.world name (name_of_uri c uri)))
+answer_to o c w (outgoing name uri p) =
+    unread (Ok (outgoing_named c w.world name p (name_of_uri c uri)))
+answer_to o c w (folds uri) = unread (Ok (folds_named w.world (name_of_uri c uri)))
 
 -- the reply with an answer
 abbrev pub answer_reply : (id : Json) → Result Json Unrenamed → Json
 answer_reply id (Ok answer) = result_reply id answer
 answer_reply id (Err why) = error_reply id RequestFailed (unrenamed_text why)
+
+-- a reply, and what was read for it
+pub record Replied : Type 0 where
+  pub message : Json
+  pub read : List Looked
+
+abbrev pub reply_with : (id : Json) → Answered → Replied
+reply_with id a = record { message = answer_reply id a.answer; read = a.read }

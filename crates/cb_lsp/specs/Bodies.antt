@@ -1,7 +1,7 @@
 -- What a body that is read does to a server.
 use Rattle.std.specs.Prelude.{◌≡◌, Bool, false, ◌&&◌, ◌||◌, cond, ℕ, List, codes, Option, None, Some}
 use Rattle.std.specs.Prelude.{IfOk, OnOk, Result}
-use Rattle.std.specs.List.{flat_map}
+use Rattle.std.specs.List.{AllByRecursion, flat_map}
 use Rattle.json.specs.Find.{get}
 use Rattle.json.specs.Json.{Json, document, null, boolean, number, string, array, object}
 use Rattle.cb_tags.specs.declared.sink.WriteFault.{WriteFault}
@@ -10,7 +10,8 @@ use Rattle.cb_tags.specs.Writing.{Puts}
 use Rattle.cb_wire.specs.Messages.{IsId, has, text_of}
 use Rattle.cb_wire.specs.Texts.{frame}
 use Rattle.cb_wire.specs.Values.{value_text}
-use Rattle.cb_lsp.specs.Documents.{Oracle}
+use Rattle.cb_lsp.specs.Answers.{Replied}
+use Rattle.cb_lsp.specs.Documents.{Looked, Oracle}
 use Rattle.cb_lsp.specs.Messages.{Message, Outcome, Serving, does, is_exit, log_of, not_json}
 use Rattle.cb_lsp.specs.Messages.{not_request, notification, out_of_memory, replies, reply}
 use Rattle.cb_lsp.specs.Messages.{request}
@@ -65,6 +66,10 @@ outcome s refused = replies s (log_of out_of_memory)
 abbrev pub after : Serving → Turn → Serving
 after s t = (outcome s t).server
 
+-- what was read again
+abbrev pub read_in : Serving → Turn → List Looked
+read_in s t = (outcome s t).read
+
 -- the bytes that are written
 abbrev pub written_text : List Json → List ℕ
 written_text js = flat_map (λ j. frame (value_text j)) js
@@ -79,10 +84,23 @@ abbrev pub Does : {A E : Type 0} → Outcome → Serving → Writer → Writer �
 Does o next old new result =
     OnOk result (next ≡ o.server) × Puts old new result (written_text o.written)
 
+-- and what was read again is what is found there
+abbrev pub DoesBy : {A E : Type 0} → (finds : Looked → Type 0) → Outcome → Serving → Writer → Writer
+    → Result A E → Type 0
+DoesBy finds o next old new result =
+    Does o next old new result × OnOk result (AllByRecursion finds o.read)
+
+-- a reply is written, and what was read for it is what is found there
+abbrev pub Replies : {A E : Type 0} → (finds : Looked → Type 0) → Replied → Writer → Writer
+    → Result A E → Type 0
+Replies finds r old new result =
+    Puts old new result (frame (value_text r.message)) × AllByRecursion finds r.read
+
 -- a turn is taken: whether the client ends the run by it
-abbrev pub Takes : Turn → (s next : Serving) → Writer → Writer → Result Bool WriteFault → Type 0
-Takes t s next old new result =
-    Does (outcome s t) next old new result × IfOk result (λ last. last ≡ is_last t)
+abbrev pub Takes : (finds : Looked → Type 0) → Turn → (s next : Serving) → Writer → Writer
+    → Result Bool WriteFault → Type 0
+Takes finds t s next old new result =
+    DoesBy finds (outcome s t) next old new result × IfOk result (λ last. last ≡ is_last t)
 
 -- a turn whose message is known
 abbrev pub IsOf : (Message → Type 0) → Turn → Type 0
@@ -90,6 +108,7 @@ IsOf P (taken m o) = P m
 IsOf P refused = Unit {0}
 
 -- a turn is taken whose message is known by its body
-abbrev pub TakesBody : (Message → Type 0) → (s next : Serving) → Writer → Writer
-    → Result Bool WriteFault → Type 0
-TakesBody P s next old new result = (t : Turn) × IsOf P t × Takes t s next old new result
+abbrev pub TakesBody : (finds : Looked → Type 0) → (Message → Type 0) → (s next : Serving) → Writer
+    → Writer → Result Bool WriteFault → Type 0
+TakesBody finds P s next old new result =
+    (t : Turn) × IsOf P t × Takes finds t s next old new result

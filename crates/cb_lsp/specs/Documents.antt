@@ -1,6 +1,6 @@
 -- The files of a server and the documents that the editor has open, and what the editor tells of
 -- them.
-use Rattle.std.specs.Prelude.{ℕ, Bool, true, false, not, ◌&&◌, ◌||◌, List, [], ◌∷◌}
+use Rattle.std.specs.Prelude.{ℕ, Bool, true, false, not, ◌&&◌, ◌||◌, ◌+◌, List, [], ◌∷◌}
 use Rattle.std.specs.Prelude.{codes, Option, None, Some, Result, Ok, Err, if◌then◌else◌}
 use Rattle.std.specs.List.{list_any}
 use Rattle.std.specs.Str.{bytes_eq}
@@ -8,7 +8,7 @@ use Rattle.cb_desk.specs.declared.refusal.Refusal.{Refusal}
 use Rattle.cb_desk.specs.declared.refusal.Refusal.TheVariants.{OutOfMemory}
 use Rattle.cb_desk.specs.Refusals.{text_of}
 use Rattle.cb_desk.specs.Step.{Step, load, reload, step, unload}
-use Rattle.cb_desk.specs.World.{File, World, has_file, text_of_file}
+use Rattle.cb_desk.specs.World.{File, World, WorldBounds, has_file, text_of_file}
 use Rattle.cb_wire.specs.declared.units.Encoding.{Encoding}
 use Rattle.cb_lsp.specs.Changes.{TextChange, text_by}
 
@@ -44,6 +44,20 @@ pub data Reading : Type 0 where
   unreadable : Reading
   no_room : Reading
   holds : List ℕ → Reading
+
+-- a file that was read again: its path, the most bytes that are read of it, and what is found
+pub record Looked : Type 0 where
+  pub path : List ℕ
+  pub most : ℕ
+  pub found : Reading
+
+-- one byte more than a file may have, so that a larger one is seen to be too large
+abbrev pub most_read : WorldBounds → ℕ
+most_read b = b.file_bytes + 1
+
+abbrev pub looked_at : World → (path : List ℕ) → Reading → Looked
+looked_at w path found =
+    record { path = path; most = most_read w.bounds; found = found }
 
 -- what the machine decides while a message is taken: where memory is refused, and what is found
 -- where files are read again, each in turn

@@ -2,6 +2,7 @@
 use Rattle.std.specs.Prelude.{◌≡◌, ◌⊎◌, ℕ, true, false, List, [], Option, None, Some}
 use Rattle.std.specs.Prelude.{Result, Ok, Err}
 use Rattle.std.specs.Io.KnownBytes.{Appends}
+use Rattle.std.specs.List.{AllByRecursion}
 use Rattle.cb_tags.specs.declared.feed.Stage.TheVariants.{Failed}
 use Rattle.cb_tags.specs.declared.sink.WriteFault.{WriteFault}
 use Rattle.cb_tags.specs.Readers.{Reader}
@@ -13,7 +14,9 @@ use Rattle.cb_lsp.specs.declared.turn.Ending.TheVariants as ending
 use Rattle.cb_lsp.specs.declared.server.Stage.{Stage}
 use Rattle.cb_lsp.specs.declared.server.Stage.TheVariants.{Fresh, Running, Down}
 use Rattle.cb_lsp.specs.Messages.{Serving, too_large}
-use Rattle.cb_lsp.specs.Bodies.{IsMessage, Turn, after, is_last, refused, reply_text, taken}
+use Rattle.cb_lsp.specs.Bodies.{IsMessage, Turn, after, is_last, read_in, refused, reply_text}
+use Rattle.cb_lsp.specs.Bodies.{taken}
+use Rattle.cb_lsp.specs.Documents.{Looked}
 
 -- the first message of a stream, and what follows it
 abbrev pub IsNext : First → Turn → List ℕ → Type 0
@@ -51,18 +54,18 @@ IsEnd f s left ending.Read = left.stage ≡ Failed
 
 -- ---- one turn
 
--- a message is taken, and its reply handed on; or the run ends, with nothing done; or the writer
--- fails
-abbrev pub LeavesTurn : First → (s next : Serving) → Reader → Writer → Writer
-    → Result (Option Ending) WriteFault → Type 0
-LeavesTurn f s next left old new (Ok None) =
+-- a message is taken, what was read again is what is found there, and its reply is handed on; or the
+-- run ends, with nothing done; or the writer fails
+abbrev pub LeavesTurn : (finds : Looked → Type 0) → First → (s next : Serving) → Reader → Writer
+    → Writer → Result (Option Ending) WriteFault → Type 0
+LeavesTurn finds f s next left old new (Ok None) =
     (t : Turn) × (rest : List ℕ) × IsNext f t rest × (is_last t ≡ false)
     × (left.bytes ≡ Some rest) × (next ≡ after s t) × Appends old.bytes new.bytes (reply_text s t)
-    × (new.pending ≡ false)
-LeavesTurn f s next left old new (Ok (Some how)) =
+    × (new.pending ≡ false) × AllByRecursion finds (read_in s t)
+LeavesTurn finds f s next left old new (Ok (Some how)) =
     IsEnd f s left how × (next ≡ s) × Appends old.bytes new.bytes []
     × (new.pending ≡ old.pending)
-LeavesTurn f s next left old new (Err fault) =
+LeavesTurn finds f s next left old new (Err fault) =
     (new.failed ≡ true)
     × ((t : Turn) × (rest : List ℕ) × IsNext f t rest
     × AppendsPrefix old.bytes new.bytes (reply_text s t))

@@ -12,6 +12,7 @@ pub mod EditorExamples
 pub mod Editors
 pub mod Endings
 pub mod Exact
+pub mod Folds
 pub mod Headers
 pub mod Highlights
 pub mod Hovers

@@ -7,11 +7,13 @@ use Rattle.cb_scan.specs.declared.facts.Kind.TheVariants.{Function, Variable, Pr
 use Rattle.cb_scan.specs.Profiles.{all_by}
 use Rattle.cb_scan.specs.declared.profile.Rules.TheVariants.{Standard}
 use Rattle.cb_tags.specs.TagLines.{Tag}
+use Rattle.cb_wire.specs.declared.units.Encoding.TheVariants.{Utf16}
+use Rattle.cb_lsp.specs.Clients.{Client}
 use Rattle.cb_lsp.specs.Meaning.{is_private, meaning}
-use Rattle.cb_lsp.specs.Documents.{Document, Oracle, Reading, Work, document_of, gone, holds}
-use Rattle.cb_lsp.specs.Documents.{no_room, present}
+use Rattle.cb_lsp.specs.Documents.{Document, Looked, Oracle, Reading, Work, document_of, gone}
+use Rattle.cb_lsp.specs.Documents.{holds, no_room, present}
 use Rattle.cb_lsp.specs.References.{references}
-use Rattle.cb_lsp.specs.Renames.{files_of, first_unedited, no_memory, not_open, uses_in}
+use Rattle.cb_lsp.specs.Renames.{checks, files_of, no_memory, not_open, uses_in}
 use Rattle.cb_lsp.specs.Searches.{is_like}
 
 -- the definition of `f` in a file, `static` or not
@@ -161,33 +163,50 @@ refusing = record { refusals = false ∷ true ∷ []; found = holds (codes "1") 
 abbrev open_and_closed : List (List ℕ)
 open_and_closed = codes "a.c" ∷ codes "c.c" ∷ codes "d.c" ∷ []
 
--- what is not open is edited where it is found as it is
-pub all_are_edited : first_unedited (finding (holds (codes "1")) (holds (codes "22"))) work
-    open_and_closed ≡ None
-unfolding document_of first_unedited text_of_file
+abbrev client : Client
+client = record {
+  root = record { path = codes "/w"; uri = codes "file:///w" };
+  encoding = Utf16;
+  tree = false;
+}
+
+abbrev found_at : (path : List ℕ) → Reading → Looked
+found_at path found = record { path = path; most = 1000001; found = found }
+
+-- what is not open is read, and edited where it is found as it is
+pub all_are_edited : checks (finding (holds (codes "1")) (holds (codes "22"))) client work
+    open_and_closed ≡ record {
+      why = None;
+      read = found_at (codes "/w/c.c") (holds (codes "1"))
+          ∷ found_at (codes "/w/d.c") (holds (codes "22")) ∷ [];
+    }
+unfolding document_of checks text_of_file
 all_are_edited = refl
 
-pub one_was_changed : first_unedited (finding (holds (codes "1")) (holds (codes "2"))) work
-    open_and_closed ≡ Some (not_open (codes "d.c"))
-unfolding document_of first_unedited text_of_file
+pub one_was_changed : (checks (finding (holds (codes "1")) (holds (codes "2"))) client work
+    open_and_closed).why ≡ Some (not_open (codes "d.c"))
+unfolding document_of checks text_of_file
 one_was_changed = refl
 
-pub one_is_gone : first_unedited (finding gone (holds (codes "22"))) work open_and_closed
-    ≡ Some (not_open (codes "c.c"))
-unfolding document_of first_unedited text_of_file
+-- nothing is read behind a file that is not edited
+pub one_is_gone : checks (finding gone (holds (codes "22"))) client work open_and_closed ≡ record {
+  why = Some (not_open (codes "c.c"));
+  read = found_at (codes "/w/c.c") gone ∷ [];
+}
+unfolding document_of checks text_of_file
 one_is_gone = refl
 
-pub no_room_for_its_bytes : first_unedited (finding (holds (codes "1")) no_room) work
-    open_and_closed ≡ Some no_memory
-unfolding document_of first_unedited text_of_file
+pub no_room_for_its_bytes : (checks (finding (holds (codes "1")) no_room) client work
+    open_and_closed).why ≡ Some no_memory
+unfolding document_of checks text_of_file
 no_room_for_its_bytes = refl
 
-pub no_memory_for_its_path : first_unedited refusing work open_and_closed ≡ Some no_memory
-unfolding document_of first_unedited text_of_file
+pub no_memory_for_its_path : (checks refusing client work open_and_closed).why ≡ Some no_memory
+unfolding document_of checks text_of_file
 no_memory_for_its_path = refl
 
 -- what the disk has of a document does not count
-pub one_is_lost : first_unedited (finding (holds (codes "1")) (holds (codes "22"))) work
-    (codes "b.c" ∷ open_and_closed) ≡ Some (not_open (codes "b.c"))
-unfolding document_of first_unedited text_of_file
+pub one_is_lost : checks (finding (holds (codes "1")) (holds (codes "22"))) client work
+    (codes "b.c" ∷ open_and_closed) ≡ record { why = Some (not_open (codes "b.c")); read = [] }
+unfolding document_of checks text_of_file
 one_is_lost = refl

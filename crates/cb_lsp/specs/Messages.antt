@@ -24,10 +24,11 @@ use Rattle.cb_lsp.specs.declared.question.Unasked.{Unasked}
 use Rattle.cb_lsp.specs.declared.question.Unasked.TheVariants.{UnknownMethod, BadParameters}
 use Rattle.cb_lsp.specs.declared.server.Stage.{Stage}
 use Rattle.cb_lsp.specs.declared.server.Stage.TheVariants.{Fresh, Running, Down}
-use Rattle.cb_lsp.specs.Answers.{answer_reply, answer_to}
+use Rattle.cb_lsp.specs.Answers.{Replied, answer_to, reply_with}
 use Rattle.cb_lsp.specs.Clients.{Client}
-use Rattle.cb_lsp.specs.Documents.{Oracle, Told, Work, behind_event, changed, closed, first_refusal}
-use Rattle.cb_lsp.specs.Documents.{later, opened, removed, renewed, saved}
+use Rattle.cb_lsp.specs.Documents.{Looked, Oracle, Reading, Told, Work, behind_event, changed, closed}
+use Rattle.cb_lsp.specs.Documents.{first_found, first_refusal, is_open, is_renewed, later, looked_at}
+use Rattle.cb_lsp.specs.Documents.{opened, removed, renewed, saved}
 use Rattle.cb_lsp.specs.Params.{changes_in, document_text, event_of, items_in, member_of}
 use Rattle.cb_lsp.specs.Params.{prepares_renames, root_in, takes_trees, takes_utf8, takes_watchers}
 use Rattle.cb_lsp.specs.Params.{text_in, uri_in}
@@ -55,10 +56,11 @@ pub record Serving : Type 0 where
   pub stage : Stage
   pub watches : Bool
 
--- a server after a message, and what is written, a value a message
+-- a server after a message; what is written, a value a message; and what was read again
 pub record Outcome : Type 0 where
   pub server : Serving
   pub written : List Json
+  pub read : List Looked
 
 -- ---- what is written
 
@@ -131,7 +133,7 @@ client_of s params = record {
 }
 
 abbrev pub replies : Serving → Json → Outcome
-replies s message = record { server = s; written = message ∷ [] }
+replies s message = record { server = s; written = message ∷ []; read = [] }
 
 abbrev pub initialized : Bool → Serving → Json → Option Json → Outcome
 initialized true s id params = replies s (out_of_memory_reply id)
@@ -145,13 +147,16 @@ unasked_reply id UnknownMethod = error_reply id MethodNotFound (codes "unknown m
 unasked_reply id BadParameters = error_reply id InvalidParams (codes "bad parameters")
 
 -- the reply to a question; memory may be refused to it
-abbrev pub reply_to : Bool → Oracle → Serving → Json → Asked → Json
-reply_to true o s id asked = out_of_memory_reply id
-reply_to false o s id asked = answer_reply id (answer_to o s.client s.work asked)
+abbrev pub reply_to : Bool → Oracle → Serving → Json → Asked → Replied
+reply_to true o s id asked = record { message = out_of_memory_reply id; read = [] }
+reply_to false o s id asked = reply_with id (answer_to o s.client s.work asked)
 
-abbrev pub asked_reply : Oracle → Serving → Json → Result Asked Unasked → Json
-asked_reply o s id (Err why) = unasked_reply id why
+abbrev pub asked_reply : Oracle → Serving → Json → Result Asked Unasked → Replied
+asked_reply o s id (Err why) = record { message = unasked_reply id why; read = [] }
 asked_reply o s id (Ok asked) = reply_to (first_refusal o.refusals) (later o) s id asked
+
+abbrev pub replied : Serving → Replied → Outcome
+replied s r = record { server = s; written = r.message ∷ []; read = r.read }
 
 -- a request to a server that runs
 abbrev pub running : Oracle → Serving → Json → List ℕ → Option Json → Outcome
@@ -160,7 +165,7 @@ running o s id method params =
     then replies s (error_reply id InvalidRequest (codes "initialized already"))
     else (if bytes_eq method (codes "shutdown")
     then replies (record s { stage = Down }) (result_reply id null)
-    else replies s (asked_reply o s id (asked_by method params)))
+    else replied s (asked_reply o s id (asked_by method params)))
 
 -- a request, by the stage of the client
 abbrev pub requested : Stage → Oracle → Serving → Json → List ℕ → Option Json → Outcome
@@ -175,11 +180,15 @@ requested Down o s id method params =
 -- ---- notifications
 
 abbrev pub stays : Serving → Outcome
-stays s = record { server = s; written = [] }
+stays s = record { server = s; written = []; read = [] }
 
--- the files and documents after it, and what is told of the document of a file
-abbrev pub moved : Serving → List ℕ → Told → Outcome
-moved s name t = record { server = record s { work = t.work }; written = show_if name t.told }
+-- the files and documents after it, what is told of the document of a file, and what was read
+abbrev pub moved : Serving → List ℕ → List Looked → Told → Outcome
+moved s name read t = record {
+  server = record s { work = t.work };
+  written = show_if name t.told;
+  read = read;
+}
 
 -- a client that is ready is asked to tell of the C files that are written, where it can
 abbrev pub registers : Serving → Bool → Outcome
@@ -218,6 +227,12 @@ abbrev pub is_closing : Notice → Bool
 is_closing Close = true
 is_closing _ = false
 
+-- the file of a path is read again where its document is closed
+abbrev pub read_behind : Notice → Reading → Work → (path name : List ℕ) → List Looked
+read_behind notice found w path name =
+    if is_closing notice && is_open w.documents name then looked_at w.world path found ∷ []
+    else []
+
 -- a path ends as the name of a file does
 abbrev pub ends_as_c : List ℕ → Bool
 ends_as_c path = ends_with nat_eq path (codes ".c") || ends_with nat_eq path (codes ".h")
@@ -232,7 +247,8 @@ abbrev pub noticed_at : Notice → Oracle → Serving → Option Json → List �
 noticed_at notice o s params path =
     let name = name_below s.client.root.path path in
     if is_file_name name
-    then moved s name (told_of s.client.encoding notice o s.work params name)
+    then moved s name (read_behind notice (first_found o.found) s.work path name)
+    (told_of s.client.encoding notice o s.work params name)
     else bad_name s notice path
 
 abbrev pub noticed_on : Notice → Oracle → Serving → Option Json → Option (List ℕ) → Outcome
@@ -255,14 +271,21 @@ noticed_of notice o s params (Some uri) =
 abbrev pub may_enter : (path name : List ℕ) → Bool
 may_enter path name = is_file_name name && not (bytes_eq name path)
 
+-- the file of a path is read again where it is renewed
+abbrev pub read_renewed : Reading → Work → (may_enter : Bool) → (path name : List ℕ)
+    → List Looked
+read_renewed found w may_enter path name =
+    if is_renewed w may_enter name then looked_at w.world path found ∷ [] else []
+
 abbrev pub happened_at : FileEvent → Oracle → Serving → Option (List ℕ) → Outcome
 happened_at event o s None = stays s
 happened_at Gone o s (Some path) =
     let name = name_below s.client.root.path path in
-    moved s name (removed (first_refusal o.refusals) s.work name)
+    moved s name [] (removed (first_refusal o.refusals) s.work name)
 happened_at Written o s (Some path) =
     let name = name_below s.client.root.path path in
-    moved s name (renewed o s.work (may_enter path name) name)
+    moved s name (read_renewed (first_found o.found) s.work (may_enter path name) path name)
+    (renewed o s.work (may_enter path name) name)
 
 abbrev pub happened_to : FileEvent → Oracle → Serving → Option (List ℕ) → Outcome
 happened_to event o s None = stays s
@@ -279,7 +302,11 @@ happened o s event = happened_as (event_of event) o s event
 
 -- what comes after an outcome
 abbrev pub and_then : Outcome → Outcome → Outcome
-and_then first next = record { server = next.server; written = first.written ++ next.written }
+and_then first next = record {
+  server = next.server;
+  written = first.written ++ next.written;
+  read = first.read ++ next.read;
+}
 
 -- events in turn
 unfoldable pub all_happened : Oracle → Serving → Items → Outcome

@@ -12,8 +12,8 @@ use Rattle.cb_lsp.specs.declared.disk.Found.TheVariants.{Holds}
 use Rattle.cb_lsp.specs.Documents.{Reading, Kept, gone, holds, no_room, nothing, present, text}
 use Rattle.cb_lsp.specs.Documents.{unreadable}
 use Rattle.cb_lsp.specs.declared.question.Question.{Question}
-use Rattle.cb_lsp.specs.declared.question.Question.TheVariants.{InFile, Incoming, Outgoing, Rename}
-use Rattle.cb_lsp.specs.declared.question.Question.TheVariants.{WorkspaceSymbols}
+use Rattle.cb_lsp.specs.declared.question.Question.TheVariants.{Folds, InFile, Incoming, Outgoing}
+use Rattle.cb_lsp.specs.declared.question.Question.TheVariants.{Rename, WorkspaceSymbols}
 use Rattle.cb_lsp.specs.declared.question.Unasked.{Unasked}
 use Rattle.cb_wire.specs.declared.message.Message.{Message as CodeMessage}
 use Rattle.cb_wire.specs.declared.message.Message.TheVariants.{NotRequest, Notification, Reply}
@@ -21,7 +21,8 @@ use Rattle.cb_wire.specs.declared.message.Message.TheVariants.{Request}
 use Rattle.cb_wire.specs.Messages.{id_json}
 use Rattle.cb_lsp.specs.Messages.{Message, not_request, notification, reply, request}
 use Rattle.cb_lsp.specs.steps.Values.{seen}
-use Rattle.cb_lsp.specs.Questions.{Asked, in_file, incoming, outgoing, rename, workspace_symbols}
+use Rattle.cb_lsp.specs.Questions.{Asked, folds, in_file, incoming, outgoing, rename}
+use Rattle.cb_lsp.specs.Questions.{workspace_symbols}
 
 -- what a question asks
 abbrev pub asked_of : Question → Asked
@@ -29,6 +30,7 @@ asked_of (InFile uri question) = in_file uri.now question
 asked_of (WorkspaceSymbols query) = workspace_symbols query.now
 asked_of (Incoming name uri) = incoming name.now uri.now
 asked_of (Outgoing name uri position) = outgoing name.now uri.now position
+asked_of (Folds uri) = folds uri.now
 asked_of (Rename uri position new) = rename uri.now position new.now
 
 -- what a question asks, where there is one

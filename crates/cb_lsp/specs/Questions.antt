@@ -15,14 +15,16 @@ use Rattle.cb_lsp.specs.declared.question.Unasked.{Unasked}
 use Rattle.cb_lsp.specs.declared.question.Unasked.TheVariants.{UnknownMethod, BadParameters}
 
 -- what is asked: about the file of a URI; for the symbols of the session that a query names; how the
--- word at a position of the file of a URI is given a new name; who calls a name that stands in the file of
--- a URI; or what is called by what has a name at a position there
+-- word at a position of the file of a URI is given a new name; who calls a name that stands in the
+-- file of a URI; what is called by what has a name at a position there; or what is folded of the file
+-- of a URI
 pub data Asked : Type 0 where
   in_file : (uri : List ℕ) → FileQuestion → Asked
   workspace_symbols : (query : List ℕ) → Asked
   rename : (uri : List ℕ) → Position → (new : List ℕ) → Asked
   incoming : (name uri : List ℕ) → Asked
   outgoing : (name uri : List ℕ) → Position → Asked
+  folds : (uri : List ℕ) → Asked
 
 -- a question at a position of a file
 abbrev pub at_place : (Position → FileQuestion) → Option (List ℕ) → Option Position → Option Asked
@@ -82,4 +84,6 @@ asked_by method params =
     then or_bad (at_place Completions (uri_in params) (position_in params))
     else (if bytes_eq method (codes "callHierarchy/outgoingCalls")
     then or_bad (calls_by (item_name params) (item_uri params) (item_start params))
-    else Err UnknownMethod)))))))))))
+    else (if bytes_eq method (codes "textDocument/foldingRange")
+    then or_bad (option_map folds (uri_in params))
+    else Err UnknownMethod))))))))))))

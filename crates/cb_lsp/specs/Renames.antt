@@ -18,12 +18,12 @@ use Rattle.cb_wire.specs.declared.list.TheConstants.{MOST_ELEMENTS}
 use Rattle.cb_wire.specs.declared.position.Position.{Position}
 use Rattle.cb_wire.specs.Edits.{FileEdits, edit_of, edits_of}
 use Rattle.cb_wire.specs.Positions.{place}
-use Rattle.cb_wire.specs.Uris.{uri_of}
+use Rattle.cb_wire.specs.Uris.{path_below, uri_of}
 use Rattle.cb_wire.specs.Values.{range_tree}
 use Rattle.cb_lsp.specs.Clients.{Client}
-use Rattle.cb_lsp.specs.Documents.{Document, Oracle, Reading, Work, behind_reading, document_of}
-use Rattle.cb_lsp.specs.Documents.{first_found, first_refusal, gone, holds, is_open, no_room}
-use Rattle.cb_lsp.specs.Documents.{unreadable, was_lost}
+use Rattle.cb_lsp.specs.Documents.{Document, Looked, Oracle, Reading, Work, behind_reading}
+use Rattle.cb_lsp.specs.Documents.{document_of, first_found, first_refusal, gone, holds, is_open}
+use Rattle.cb_lsp.specs.Documents.{looked_at, no_room, unreadable, was_lost}
 use Rattle.cb_lsp.specs.Places.{range_of}
 use Rattle.cb_lsp.specs.References.{uses_reached}
 use Rattle.cb_lsp.specs.Words.{word_at}
@@ -129,64 +129,88 @@ unless_found file text no_room = Some no_memory
 unless_found file text (holds found) =
     if bytes_eq found text then None else Some (not_open file)
 
--- the same where memory may be refused to its path
-abbrev pub unless_read : Oracle → (file text : List ℕ) → Option Unrenamed
-unless_read o file text =
-    if first_refusal o.refusals then Some no_memory
-    else unless_found file text (first_found o.found)
+-- a file is looked at: why it is not edited, if so, and what was read for that
+pub record Check : Type 0 where
+  pub why : Option Unrenamed
+  pub read : List Looked
 
--- why a file is not edited, if so
-abbrev pub unedited : Oracle → Work → (file : List ℕ) → Option Unrenamed
-unedited o w file =
-    if is_open w.documents file then unless_lost (was_lost (document_of w.documents file)) file
-    else unless_read o file (text_of_file w.world.files file)
+-- one that is read at a path; memory may be refused to the path
+abbrev pub check_read : Oracle → World → (path file : List ℕ) → Check
+check_read o w path file =
+    if first_refusal o.refusals then record { why = Some no_memory; read = [] }
+    else record {
+      why = unless_found file (text_of_file w.files file) (first_found o.found);
+      read = looked_at w path (first_found o.found) ∷ [];
+    }
+
+abbrev pub check_open : List Document → (file : List ℕ) → Check
+check_open ds file =
+    record { why = unless_lost (was_lost (document_of ds file)) file; read = [] }
+
+abbrev pub check : Oracle → Client → Work → (file : List ℕ) → Check
+check o c w file =
+    if is_open w.documents file then check_open w.documents file
+    else check_read o w.world (path_below c.root.path file) file
 
 -- what is decided behind a file, which is read once, unless it is open
 abbrev pub behind_file : List Document → List ℕ → Oracle → Oracle
 behind_file ds file o = if is_open ds file then o else behind_reading o
 
--- the reason of the first file that has one
-abbrev pub or_reason : Option Unrenamed → Option Unrenamed → Option Unrenamed
-or_reason None other = other
-or_reason (Some why) other = Some why
+-- files one after another, up to the first one that is not edited
+abbrev pub check_more : (read : List Looked) → Option Unrenamed → Check → Check
+check_more read None more = record { why = more.why; read = read ++ more.read }
+check_more read (Some why) more = record { why = Some why; read = read }
 
-unfoldable pub first_unedited : Oracle → Work → List (List ℕ) → Option Unrenamed
-first_unedited o w [] = None
-first_unedited o w (file ∷ files) =
-    or_reason (unedited o w file) (first_unedited (behind_file w.documents file o) w files)
+abbrev pub then_check : Check → Check → Check
+then_check first more = check_more first.read first.why more
+
+unfoldable pub checks : Oracle → Client → Work → List (List ℕ) → Check
+checks o c w [] = record { why = None; read = [] }
+checks o c w (file ∷ files) =
+    then_check (check o c w file) (checks (behind_file w.documents file o) c w files)
 
 -- ---- all of it
 
--- where each file is edited
-abbrev pub renamed_if : Client → List File → (new : List ℕ) → List Fact → Option Unrenamed
-    → Result Json Unrenamed
-renamed_if c files new us None = Ok (all_edits c files new us)
-renamed_if c files new us (Some why) = Err why
+abbrev pub ok_unless : Json → Option Unrenamed → Result Json Unrenamed
+ok_unless j None = Ok j
+ok_unless j (Some why) = Err why
 
-abbrev pub renamed_all : Oracle → Client → Work → (new : List ℕ) → List Fact
-    → Result Json Unrenamed
-renamed_all o c w new us =
-    renamed_if c w.world.files new us (first_unedited o w (files_of us))
+-- an answer, or why there is none, and what was read for it
+pub record Answered : Type 0 where
+  pub answer : Result Json Unrenamed
+  pub read : List Looked
+
+abbrev pub unread : Result Json Unrenamed → Answered
+unread answer = record { answer = answer; read = [] }
+
+-- where each file is edited
+abbrev pub renamed_if : Client → List File → (new : List ℕ) → List Fact → Check → Answered
+renamed_if c files new us k = record {
+  answer = ok_unless (all_edits c files new us) k.why;
+  read = k.read;
+}
+
+abbrev pub renamed_all : Oracle → Client → Work → (new : List ℕ) → List Fact → Answered
+renamed_all o c w new us = renamed_if c w.world.files new us (checks o c w (files_of us))
 
 abbrev pub is_some_use : List Fact → Bool
 is_some_use [] = false
 is_some_use (u ∷ us) = true
 
 -- a word of the file of this name and text is renamed
-abbrev pub renamed_word : Oracle → Client → Work → (name text new : List ℕ) → Option Span
-    → Result Json Unrenamed
-renamed_word o c w name text new None = Err no_definition
+abbrev pub renamed_word : Oracle → Client → Work → (name text new : List ℕ) → Option Span → Answered
+renamed_word o c w name text new None = unread (Err no_definition)
 renamed_word o c w name text new (Some word) =
-    if not (is_name new) then Err bad_name
-    else (if is_some_use (uses_of w.world.profile new w.world.files) then Err used_already
+    if not (is_name new) then unread (Err bad_name)
+    else (if is_some_use (uses_of w.world.profile new w.world.files) then unread (Err used_already)
     else renamed_all o c w new (renamed_uses w.world name text word))
 
 -- the word at a position of a file of this name is renamed, if there is such a file
 abbrev pub renamed_at : Oracle → Client → Work → Position → (new : List ℕ) → Option (List ℕ)
-    → Result Json Unrenamed
-renamed_at o c w p new None = Err no_definition
+    → Answered
+renamed_at o c w p new None = unread (Err no_definition)
 renamed_at o c w p new (Some name) =
     let text = text_of_file w.world.files name in
     if has_file w.world.files name
     then renamed_word o c w name text new (renamable_at w.world text (place c.encoding text p))
-    else Err no_definition
+    else unread (Err no_definition)

@@ -40,7 +40,7 @@ impl Server {
     ghost use Rattle.json.specs.Value.{value_view};
     ghost use Rattle.cb_lsp.specs.Messages.{does};
     ghost use Rattle.cb_lsp.specs.Bodies.{IsMessage, IsValue};
-    ghost use Rattle.cb_lsp.specs.Bodies.{Does, TakesBody};
+    ghost use Rattle.cb_lsp.specs.Bodies.{DoesBy, TakesBody};
 
     /// Takes a message.
     fn message<D: Disk, W: Write>(
@@ -50,8 +50,8 @@ impl Server {
         out: &mut Sink<W>,
         message: Message<'_, '_>,
     ) -> Result<(), WriteFault>
-        ensures { (o : Oracle) × Does (does o self.old (message_in message.entry))
-            self.new out.old out.new result }
+        ensures { (o : Oracle) × DoesBy (D.finds disk.now)
+            (does o self.old (message_in message.entry)) self.new out.old out.new result }
     {
         match message {
             Message::NotRequest => log(out, b"not a request"),
@@ -69,7 +69,7 @@ impl Server {
         out: &mut Sink<W>,
         value: &Value<'_>,
     ) -> Result<bool, WriteFault>
-        ensures { TakesBody (IsValue (Some (value_view value.now))) self.old self.new
+        ensures { TakesBody (D.finds disk.now) (IsValue (Some (value_view value.now))) self.old self.new
             out.old out.new result }
     {
         let message = message_of(value);
@@ -89,7 +89,7 @@ impl Server {
         scratch: &mut Scratch,
         text: &str,
     ) -> Result<bool, WriteFault>
-        ensures { TakesBody (IsValue (document text.now)) self.old self.new
+        ensures { TakesBody (D.finds disk.now) (IsValue (document text.now)) self.old self.new
             out.old out.new result }
     {
         match value_of(alloc, text, scratch) {
@@ -108,7 +108,8 @@ impl Server {
         scratch: &mut Scratch,
         body: &[u8],
     ) -> Result<bool, WriteFault>
-        ensures { TakesBody (IsMessage body.now) self.old self.new out.old out.new result }
+        ensures { TakesBody (D.finds disk.now) (IsMessage body.now) self.old self.new
+            out.old out.new result }
     {
         match text_of(alloc, body) {
             Ok(text) => self.text(alloc, disk, out, scratch, text.as_str()),

@@ -1,5 +1,7 @@
 //! Files that are read again.
-ghost use Rattle.std.specs.Prelude.{◌<◌, ◌^◌};
+ghost use Rattle.std.specs.Prelude.{◌≡◌, ◌<◌, ◌^◌};
+ghost use Rattle.cb_lsp.specs.Documents.{Looked, most_read};
+ghost use Rattle.cb_lsp.specs.Models.{found_in};
 
 use cb_desk::Desk;
 use std::alloc::Global;
@@ -19,14 +21,20 @@ pub enum Found {
 
 /// The file system, as a server reads it.
 pub trait Disk {
+    /// What is found at a path, of which so many bytes are read at most.
+    ghost finds: { Self → Looked → Type 0 };
+
     /// The first bytes of the file of a path, at most so many.
     fn read(&self, alloc: Global, path: &[u8], most: u64) -> Found
-        requires { most < 2 ^ 33 };
+        requires { most < 2 ^ 33 }
+        ensures { finds self.now
+            (record { path = path.now; most = most; found = found_in result }) };
 }
 
 /// One more than the most bytes of a file, so that a larger one is seen to be too large.
 pub(crate) fn most_read(desk: &Desk) -> u64
-    ensures { result < 2 ^ 33 }
+    ensures value { result ≡ most_read desk.now.timeline.present.bounds }
+    ensures small { result < 2 ^ 33 }
 {
     desk.bounds().file_bytes() as u64 + 1
 }

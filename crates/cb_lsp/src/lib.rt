@@ -16,6 +16,7 @@ mod columns;
 mod completion;
 mod disk;
 mod documents;
+mod folds;
 mod header;
 mod highlights;
 mod hover;

@@ -7,6 +7,7 @@ ghost use Rattle.cb_lsp.specs.Questions.{
   at_place,
   calls_by,
   calls_to,
+  folds,
   in_file,
   or_bad,
   rename_with,
@@ -65,6 +66,8 @@ pub(crate) enum Question<'a> {
     Incoming(&'a str, &'a str),
     /// What is called by what has a name at a position of the file of a URI.
     Outgoing(&'a str, &'a str, Position),
+    /// What is folded of the file of a URI.
+    Folds(&'a str),
 }
 
 /// Why a request asks nothing.
@@ -192,6 +195,12 @@ fn outgoing<'v, 'a>(call: Call<'v, 'a>) -> Option<Question<'a>>
     Some(Question::Outgoing(name, uri, position))
 }
 
+fn folds<'v, 'a>(call: Call<'v, 'a>) -> Option<Question<'a>>
+    ensures { option_map asked_of result ≡ option_map folds (uri_in (seen call.entry.params)) }
+{
+    Some(Question::Folds(uri_of(call.params)?))
+}
+
 /// What a call asks.
 pub(crate) fn question_of<'v, 'a>(call: Call<'v, 'a>) -> Result<Question<'a>, Unasked>
     ensures { asked_in result ≡ asked_by call.entry.method.now (seen call.entry.params) }
@@ -220,6 +229,8 @@ pub(crate) fn question_of<'v, 'a>(call: Call<'v, 'a>) -> Result<Question<'a>, Un
         or_bad(completions(call))
     } else if call.method == "callHierarchy/outgoingCalls" {
         or_bad(outgoing(call))
+    } else if call.method == "textDocument/foldingRange" {
+        or_bad(folds(call))
     } else {
         Err(Unasked::UnknownMethod)
     }

@@ -11,19 +11,20 @@ ghost use Rattle.cb_wire.specs.Positions.{place};
 ghost use Rattle.cb_wire.specs.Texts.{frame};
 ghost use Rattle.cb_wire.specs.Trees.{result_reply};
 ghost use Rattle.cb_wire.specs.Values.{value_text};
-ghost use Rattle.cb_lsp.specs.Answers.{answer_reply};
+ghost use Rattle.cb_lsp.specs.Answers.{answer_reply, reply_with};
+ghost use Rattle.cb_lsp.specs.Bodies.{Replies};
 ghost use Rattle.cb_lsp.specs.Documents.{Oracle, Reading, document_of, was_lost};
 ghost use Rattle.cb_lsp.specs.Models.{found_in};
 ghost use Rattle.cb_lsp.specs.Renames.{
   all_edits,
+  check,
+  checks,
   files_of,
-  first_unedited,
   is_some_use,
   renamable_at,
   renamed_all,
   renamed_uses,
   renamed_word,
-  unedited,
   unless_found,
   unless_lost,
 };
@@ -33,7 +34,8 @@ ghost use Rattle.cb_lsp.specs.steps.Renames.{
   edits_left,
   is_last_of,
   reason_of,
-  unedited_if,
+  Tells,
+  check_if,
   work_in,
 };
 ghost use Rattle.cb_lsp.specs.steps.Works.{one_change};
@@ -219,8 +221,9 @@ impl<'a> Renaming<'a> {
 
     /// Why a file is not edited. One that is not open is read again.
     fn unedited<D: Disk>(&self, alloc: Global, disk: &D, file: &'a [u8]) -> Option<Unedited<'a>>
-        ensures { (no_path : Bool) × (found : Reading) × (option_map reason_of result
-            ≡ unedited (one_change no_path found) (work_in self.now) file.entry.now) }
+        ensures { (no_path : Bool) × (found : Reading) × Tells (D.finds disk.now)
+            (check (one_change no_path found) (client_in self.now.asked.forms) (work_in self.now)
+            file.entry.now) result }
     {
         if self.documents.is_open(file) {
             return self.unless_lost(file);
@@ -242,8 +245,9 @@ impl<'a> Renaming<'a> {
         opens: bool,
         file: &'a [u8],
     ) -> Option<Unedited<'a>>
-        ensures { (no_path : Bool) × (found : Reading) × (option_map reason_of result
-            ≡ unedited_if opens (one_change no_path found) (work_in self.now) file.entry.now) }
+        ensures { (no_path : Bool) × (found : Reading) × Tells (D.finds disk.now)
+            (check_if opens (one_change no_path found) (client_in self.now.asked.forms)
+            (work_in self.now) file.entry.now) result }
     {
         if opens {
             self.unedited(alloc, disk, file)
@@ -260,8 +264,9 @@ impl<'a> Renaming<'a> {
         uses: Reached<'a, '_>,
     ) -> Option<Unedited<'a>>
         requires { UsesAreByPlace (reached_left uses) }
-        ensures { (o : Oracle) × (option_map reason_of result ≡ first_unedited o (work_in self.now)
-            (files_of (reached_left uses.entry))) }
+        ensures { (o : Oracle) × Tells (D.finds disk.now) (checks o
+            (client_in self.now.asked.forms) (work_in self.now)
+            (files_of (reached_left uses.entry))) result }
     {
         let mut left = uses;
         let mut opens = true;
@@ -313,11 +318,11 @@ impl<'a> Renaming<'a> {
         id: Id<'_>,
         word: Span,
     ) -> Result<(), WriteFault>
-        ensures { (o : Oracle) × Puts out.old out.new result (frame (value_text
-            (answer_reply (id_json id.entry) (renamed_all o (client_in self.now.asked.forms)
+        ensures { (o : Oracle) × Replies (D.finds disk.now) (reply_with (id_json id.entry)
+            (renamed_all o (client_in self.now.asked.forms)
             (work_in self.now) self.now.new_name.now
             (renamed_uses (work_in self.now).world self.now.asked.name.now
-            self.now.asked.source.now word))))) }
+            self.now.asked.source.now word))) out.old out.new result }
     {
         match self.first_unedited(alloc, disk, self.uses(word)) {
             Some(why) => put_unedited(out, id, why),
@@ -334,10 +339,10 @@ impl<'a> Renaming<'a> {
         id: Id<'_>,
         word: Span,
     ) -> Result<(), WriteFault>
-        ensures { (o : Oracle) × Puts out.old out.new result (frame (value_text
-            (answer_reply (id_json id.entry) (renamed_word o (client_in self.now.asked.forms)
+        ensures { (o : Oracle) × Replies (D.finds disk.now) (reply_with (id_json id.entry)
+            (renamed_word o (client_in self.now.asked.forms)
             (work_in self.now) self.now.asked.name.now self.now.asked.source.now
-            self.now.new_name.now (Some word))))) }
+            self.now.new_name.now (Some word))) out.old out.new result }
     {
         if !is_name(self.new_name) {
             return put_failure(out, id, ErrorCode::RequestFailed, b"bad name");
@@ -357,10 +362,10 @@ impl<'a> Renaming<'a> {
         id: Id<'_>,
         word: Option<Span>,
     ) -> Result<(), WriteFault>
-        ensures { (o : Oracle) × Puts out.old out.new result (frame (value_text
-            (answer_reply (id_json id.entry) (renamed_word o (client_in self.now.asked.forms)
+        ensures { (o : Oracle) × Replies (D.finds disk.now) (reply_with (id_json id.entry)
+            (renamed_word o (client_in self.now.asked.forms)
             (work_in self.now) self.now.asked.name.now self.now.asked.source.now
-            self.now.new_name.now word)))) }
+            self.now.new_name.now word)) out.old out.new result }
     {
         match word {
             Some(word) => self.put_named(alloc, disk, out, id, word),
@@ -379,12 +384,13 @@ impl<'a> Renaming<'a> {
     ) -> Result<(), WriteFault>
         requires { self.now.asked.facts.now
             ≡ facts_in (work_in self.now).world.profile self.now.asked.source.now }
-        ensures { (o : Oracle) × Puts out.old out.new result (frame (value_text
-            (answer_reply (id_json id.entry) (renamed_word o (client_in self.now.asked.forms)
+        ensures { (o : Oracle) × Replies (D.finds disk.now) (reply_with (id_json id.entry)
+            (renamed_word o (client_in self.now.asked.forms)
             (work_in self.now) self.now.asked.name.now self.now.asked.source.now
             self.now.new_name.now
             (renamable_at (work_in self.now).world self.now.asked.source.now
-            (place self.now.asked.forms.encoding self.now.asked.source.now position)))))) }
+            (place self.now.asked.forms.encoding self.now.asked.source.now position))))
+            out.old out.new result }
     {
         let text = self.asked.source.bytes();
         let place = place_of_position(self.asked.forms.encoding, text, position);

@@ -35,7 +35,7 @@ impl Server {
         out: &mut Sink<W>,
     ) -> Result<Ending, RunFault>
         ensures { WhateverFollows feed.old feed.new (λ bytes left.
-            LeavesRun bytes self.old self.new left out.old out.new result) }
+            LeavesRun (D.finds disk.now) bytes self.old self.new left out.old out.new result) }
     {
         let mut frames = match Frames::new(alloc) {
             Ok(frames) => frames,

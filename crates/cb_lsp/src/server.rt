@@ -6,6 +6,7 @@ ghost use Rattle.cb_lsp.specs.steps.Values.{seen};
 use crate::answers::{FileAsked, put_session_symbols};
 use crate::callers::put_incoming;
 use crate::disk::{Disk, Found, most_read};
+use crate::folds::put_folds;
 use crate::location::Forms;
 use crate::notice::{FileEvent, Notice};
 use crate::outgoing::put_outgoing;
@@ -107,7 +108,7 @@ impl Server {
     ghost use Rattle.cb_wire.specs.Texts.{frame};
     ghost use Rattle.cb_wire.specs.Trees.{result_reply};
     ghost use Rattle.cb_wire.specs.Values.{value_text};
-    ghost use Rattle.cb_lsp.specs.Answers.{answer_named, answer_reply};
+    ghost use Rattle.cb_lsp.specs.Answers.{answer_named, reply_with};
     ghost use Rattle.cb_lsp.specs.Messages.{
       asked_reply,
       fresh_server,
@@ -119,19 +120,21 @@ impl Server {
       noticed_at,
       noticed_by,
       noticed_of,
+      read_behind,
       registers,
       requested,
       running,
       with_root,
     };
-    ghost use Rattle.cb_lsp.specs.Models.{asked_of};
+    ghost use Rattle.cb_lsp.specs.Models.{asked_of, found_in};
+    ghost use Rattle.std.specs.List.{AllByRecursion};
     ghost use Rattle.cb_lsp.specs.Params.{items_in, member_of, uri_in};
-    ghost use Rattle.cb_lsp.specs.Questions.{in_file, incoming, outgoing, rename};
+    ghost use Rattle.cb_lsp.specs.Questions.{folds, in_file, incoming, outgoing, rename};
     ghost use Rattle.cb_lsp.specs.Renames.{renamed_at};
     ghost use Rattle.cb_lsp.specs.steps.Located.{client_in};
     ghost use Rattle.cb_lsp.specs.steps.Works.{one_change, one_event, only};
     ghost use Rattle.cb_lsp.specs.Documents.{Oracle, Reading};
-    ghost use Rattle.cb_lsp.specs.Bodies.{Does};
+    ghost use Rattle.cb_lsp.specs.Bodies.{Does, DoesBy, Replies};
     ghost use Rattle.cb_lsp.specs.steps.Values.{seen};
 
     /// A server of the files of a desk, below a root, which was given or is that of the client. The
@@ -179,7 +182,7 @@ impl Server {
         id: Id<'_>,
         call: Call<'_, '_>,
     ) -> Result<(), WriteFault>
-        ensures { (o : Oracle) × Does (requested self.old.stage o self.old
+        ensures { (o : Oracle) × DoesBy (D.finds disk.now) (requested self.old.stage o self.old
             (id_json id.entry) call.entry.method.now (seen call.entry.params)) self.new
             out.old out.new result }
     {
@@ -244,7 +247,7 @@ impl Server {
         id: Id<'_>,
         call: Call<'_, '_>,
     ) -> Result<(), WriteFault>
-        ensures { (o : Oracle) × Does (running o self.old (id_json id.entry)
+        ensures { (o : Oracle) × DoesBy (D.finds disk.now) (running o self.old (id_json id.entry)
             call.entry.method.now (seen call.entry.params)) self.new out.old out.new result }
     {
         if call.method == "initialize" {
@@ -284,8 +287,9 @@ impl Server {
         question: Question<'_>,
     ) -> Result<(), WriteFault>
         ensures same { self.new ≡ self.old }
-        ensures put { (o : Oracle) × Puts out.old out.new result (frame (value_text
-            (asked_reply o self.old (id_json id.entry) (Ok (asked_of question.entry))))) }
+        ensures put { (o : Oracle) × Replies (D.finds disk.now)
+            (asked_reply o self.old (id_json id.entry) (Ok (asked_of question.entry)))
+            out.old out.new result }
     {
         self.settle(question);
         match question {
@@ -300,6 +304,7 @@ impl Server {
             Question::Outgoing(name, uri, position) => {
                 self.outgoing_at(alloc, out, id, name, uri, position)
             }
+            Question::Folds(uri) => self.folds_at(alloc, out, id, uri),
         }
     }
 
@@ -314,7 +319,7 @@ impl Server {
     ) -> Result<(), WriteFault>
         ensures { (no_memory : Bool) × Puts out.old out.new result (frame (value_text
             (asked_reply (only no_memory) self.now (id_json id.entry)
-            (Ok (in_file uri.now question))))) }
+            (Ok (in_file uri.now question))).message)) }
     {
         match path_of_uri(alloc, uri.as_bytes()) {
             Ok(Some(path)) => {
@@ -363,9 +368,8 @@ impl Server {
         position: Position,
         new_name: &str,
     ) -> Result<(), WriteFault>
-        ensures { (o : Oracle) × Puts out.old out.new result (frame (value_text
-            (asked_reply o self.now (id_json id.entry)
-            (Ok (rename uri.now position new_name.now))))) }
+        ensures { (o : Oracle) × Replies (D.finds disk.now) (asked_reply o self.now
+            (id_json id.entry) (Ok (rename uri.now position new_name.now))) out.old out.new result }
     {
         match path_of_uri(alloc, uri.as_bytes()) {
             Ok(Some(path)) => {
@@ -388,9 +392,9 @@ impl Server {
         position: Position,
         new_name: &[u8],
     ) -> Result<(), WriteFault>
-        ensures { (o : Oracle) × Puts out.old out.new result (frame (value_text
-            (answer_reply (id_json id.entry) (renamed_at o self.now.client self.now.work position
-            new_name.now (Some name.now))))) }
+        ensures { (o : Oracle) × Replies (D.finds disk.now) (reply_with (id_json id.entry)
+            (renamed_at o self.now.client self.now.work position new_name.now (Some name.now)))
+            out.old out.new result }
     {
         match self.work.desk().scanned(name) {
             Some((source, facts)) => {
@@ -423,7 +427,7 @@ impl Server {
     ) -> Result<(), WriteFault>
         ensures { (no_memory : Bool) × Puts out.old out.new result (frame (value_text
             (asked_reply (only no_memory) self.now (id_json id.entry)
-            (Ok (incoming name.now uri.now))))) }
+            (Ok (incoming name.now uri.now))).message)) }
     {
         match path_of_uri(alloc, uri.as_bytes()) {
             Ok(Some(path)) => {
@@ -448,13 +452,34 @@ impl Server {
     ) -> Result<(), WriteFault>
         ensures { (no_memory : Bool) × Puts out.old out.new result (frame (value_text
             (asked_reply (only no_memory) self.now (id_json id.entry)
-            (Ok (outgoing name.now uri.now position))))) }
+            (Ok (outgoing name.now uri.now position))).message)) }
     {
         match path_of_uri(alloc, uri.as_bytes()) {
             Ok(Some(path)) => {
                 let file = self.root.name(path.as_slice());
                 let (forms, desk) = (self.forms(), self.work.desk());
                 put_outgoing(alloc, forms, desk, out, id, name.as_bytes(), file, position)
+            }
+            Ok(None) => put_null(out, id),
+            Err(_) => put_refusal(out, id),
+        }
+    }
+
+    /// Tells what is folded of the file of a URI.
+    fn folds_at<W: Write>(
+        &self,
+        alloc: Global,
+        out: &mut Sink<W>,
+        id: Id<'_>,
+        uri: &str,
+    ) -> Result<(), WriteFault>
+        ensures { (no_memory : Bool) × Puts out.old out.new result (frame (value_text
+            (asked_reply (only no_memory) self.now (id_json id.entry) (Ok (folds uri.now))).message)) }
+    {
+        match path_of_uri(alloc, uri.as_bytes()) {
+            Ok(Some(path)) => {
+                let file = self.root.name(path.as_slice());
+                put_folds(alloc, self.work.desk(), out, id, file)
             }
             Ok(None) => put_null(out, id),
             Err(_) => put_refusal(out, id),
@@ -469,7 +494,7 @@ impl Server {
         out: &mut Sink<W>,
         call: Call<'_, '_>,
     ) -> Result<(), WriteFault>
-        ensures { (o : Oracle) × Does (noticed_by self.old.stage o self.old
+        ensures { (o : Oracle) × DoesBy (D.finds disk.now) (noticed_by self.old.stage o self.old
             call.entry.method.now (seen call.entry.params)) self.new out.old out.new result }
     {
         match self.stage {
@@ -487,7 +512,7 @@ impl Server {
         out: &mut Sink<W>,
         call: Call<'_, '_>,
     ) -> Result<(), WriteFault>
-        ensures { (o : Oracle) × Does (noticed o self.old
+        ensures { (o : Oracle) × DoesBy (D.finds disk.now) (noticed o self.old
             call.entry.method.now (seen call.entry.params)) self.new out.old out.new result }
     {
         match Notice::of_method(call.method) {
@@ -518,7 +543,7 @@ impl Server {
         notice: Notice,
         params: Option<&Value<'_>>,
     ) -> Result<(), WriteFault>
-        ensures { (o : Oracle) × Does (noticed_of notice o self.old
+        ensures { (o : Oracle) × DoesBy (D.finds disk.now) (noticed_of notice o self.old
             (seen params.entry) (uri_in (seen params.entry))) self.new out.old out.new result }
     {
         let Some(uri) = params::uri_of(params) else {
@@ -539,7 +564,10 @@ impl Server {
         notice: Notice,
         path: &[u8],
         name: &[u8],
-    ) -> Found {
+    ) -> Found
+        ensures { AllByRecursion (D.finds disk.now)
+            (read_behind notice (found_in result) self.now.work path.now name.now) }
+    {
         if notice.is_closing() && self.work.documents().is_open(name) {
             disk.read(alloc, path, most_read(self.work.desk()))
         } else {
@@ -557,7 +585,7 @@ impl Server {
         params: Option<&Value<'_>>,
         path: &[u8],
     ) -> Result<(), WriteFault>
-        ensures { (o : Oracle) × Does (noticed_at notice o self.old
+        ensures { (o : Oracle) × DoesBy (D.finds disk.now) (noticed_at notice o self.old
             (seen params.entry) path.now) self.new out.old out.new result }
     {
         let name = self.root.name(path);
@@ -582,7 +610,7 @@ impl Server {
         out: &mut Sink<W>,
         params: Option<&Value<'_>>,
     ) -> Result<(), WriteFault>
-        ensures { (o : Oracle) × Does (happened_in o self.old
+        ensures { (o : Oracle) × DoesBy (D.finds disk.now) (happened_in o self.old
             (items_in (member_of (codes "changes") (seen params.entry)))) self.new
             out.old out.new result }
     {
@@ -603,7 +631,7 @@ impl Server {
         out: &mut Sink<W>,
         event: &Value<'_>,
     ) -> Result<(), WriteFault>
-        ensures { (no_path no_text : Bool) × (found : Reading) × Does (happened
+        ensures { (no_path no_text : Bool) × (found : Reading) × DoesBy (D.finds disk.now) (happened
             (one_event no_path no_text found) self.old (value_view event.now)) self.new
             out.old out.new result }
     {
@@ -629,7 +657,7 @@ impl Server {
         kind: FileEvent,
         path: &[u8],
     ) -> Result<(), WriteFault>
-        ensures { (no_text : Bool) × (found : Reading) × Does (happened_at kind
+        ensures { (no_text : Bool) × (found : Reading) × DoesBy (D.finds disk.now) (happened_at kind
             (one_change no_text found) self.old (Some path.now)) self.new out.old out.new result }
     {
         match kind {
@@ -646,7 +674,7 @@ impl Server {
         out: &mut Sink<W>,
         path: &[u8],
     ) -> Result<(), WriteFault>
-        ensures { (no_text : Bool) × (found : Reading) × Does (happened_at FileEvent.Written
+        ensures { (no_text : Bool) × (found : Reading) × DoesBy (D.finds disk.now) (happened_at FileEvent.Written
             (one_change no_text found) self.old (Some path.now)) self.new out.old out.new result }
     {
         let name = self.root.name(path);

@@ -6,6 +6,7 @@ use Rattle.cb_desk.specs.World.{World}
 use Rattle.cb_lsp.specs.declared.run.RunFault.{RunFault}
 use Rattle.cb_lsp.specs.declared.run.RunFault.TheVariants.{Memory}
 use Rattle.cb_lsp.specs.declared.turn.Ending.{Ending}
+use Rattle.cb_lsp.specs.Documents.{Looked}
 use Rattle.cb_lsp.specs.Messages.{Serving}
 use Rattle.cb_lsp.specs.Runs.{LeavesRun}
 use Rattle.cb_session.specs.States.{State}
@@ -18,24 +19,24 @@ use Rattle.cb_words.specs.declared.job.Job.TheVariants.{Line, Find, Tags, Lsp}
 use Rattle.cbrowse.specs.Program.{IsReady, RunsServer, server_of}
 
 -- memory was refused before there was a server
-pub not_begun : (root : Option (List ℕ)) (w : World) (feed : Reader) (out : Writer)
-    → RunsServer root w feed feed out out (Err Memory)
-not_begun root w feed out = (
+pub not_begun : (finds : Looked → Type 0) (root : Option (List ℕ)) (w : World) (feed : Reader) (out : Writer)
+    → RunsServer finds root w feed feed out out (Err Memory)
+not_begun finds root w feed out = (
   server_of root w,
   Follows-nothing feed (λ bytes left.
-      LeavesRun bytes (server_of root w) (server_of root w) left out out (Err Memory))
+      LeavesRun finds bytes (server_of root w) (server_of root w) left out out (Err Memory))
       (λ bytes left is. (is, refl, refl)),
 )
 
 -- a server ran that began with the files of a session
-pub has_served : (root : Option (List ℕ)) (s t : State) (server next : Serving)
+pub has_served : (finds : Looked → Type 0) (root : Option (List ℕ)) (s t : State) (server next : Serving)
     (feed feed' : Reader) (out out' : Writer) (end : Result Ending RunFault)
     → server ≡ server_of root t.timeline.present → t ≡ s
-    → WhateverFollows feed feed' (λ bytes left. LeavesRun bytes server next left out out' end)
-    → RunsServer root s.timeline.present feed feed' out out' end
-has_served root s t server next feed feed' out out' end is same served = (
+    → WhateverFollows feed feed' (λ bytes left. LeavesRun finds bytes server next left out out' end)
+    → RunsServer finds root s.timeline.present feed feed' out out' end
+has_served finds root s t server next feed feed' out out' end is same served = (
   next,
-  subst (λ v. WhateverFollows feed feed' (λ bytes left. LeavesRun bytes v next left out out' end))
+  subst (λ v. WhateverFollows feed feed' (λ bytes left. LeavesRun finds bytes v next left out out' end))
       (is ∙ ap (λ (u : State). server_of root u.timeline.present) same) served,
 )
 

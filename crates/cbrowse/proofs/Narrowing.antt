@@ -31,6 +31,7 @@ use Rattle.cbrowse.specs.declared.execute.finish.Finish.TheVariants.{Ran, Served
 use Rattle.cbrowse.specs.declared.execute.finish.Finish.TheVariants.{Unlisted, Unwritable}
 use Rattle.cb_words.specs.declared.job.Job.{Job}
 use Rattle.cb_words.specs.declared.job.Job.TheVariants.{Line, Find, Tags, Lsp}
+use Rattle.cb_lsp.specs.Documents.{Looked}
 use Rattle.cbrowse.specs.Messages.{profile_of}
 use Rattle.cbrowse.specs.Needs.{asked_by, needed_of, only}
 use Rattle.cbrowse.specs.Program.{DoesJob, WritesText, file_text, output_format, output_text}
@@ -202,37 +203,37 @@ text_meant (Tags bounds rules listing tagsfile format list files) s by =
     tags_by rules listing format s.timeline.present by
 text_meant (Lsp bounds rules root list files) s by = refl
 
-pub does_meant : (job : Job) (lines limit : ℕ) (s : State) (feed feed' : Reader)
-    (old new : Writer) (end : Finish) → s.timeline.present.profile ≡ needed_of job
-    → DoesJob job lines limit s feed feed' old new end
-    → DoesJob job lines limit (meant job s) feed feed' old new end
-does_meant (Line bounds rules list files) lines limit s feed feed' old new end by does = does
-does_meant (Find bounds rules field pattern list files) lines limit s feed feed' old new (Ran ended)
+pub does_meant : (finds : Looked → Type 0) (job : Job) (lines limit : ℕ) (s : State)
+    (feed feed' : Reader) (old new : Writer) (end : Finish) → s.timeline.present.profile ≡ needed_of job
+    → DoesJob finds job lines limit s feed feed' old new end
+    → DoesJob finds job lines limit (meant job s) feed feed' old new end
+does_meant finds (Line bounds rules list files) lines limit s feed feed' old new end by does = does
+does_meant finds (Find bounds rules field pattern list files) lines limit s feed feed' old new (Ran ended)
     by does = (
       does.0,
       subst (λ rows. WritesText (flat_map row_line rows) old new ended)
           (answer_by rules field (string_bytes pattern) s.timeline.present by) does.1,
     )
-does_meant (Find bounds rules field pattern list files) lines limit s feed feed' old new (Served end)
+does_meant finds (Find bounds rules field pattern list files) lines limit s feed feed' old new (Served end)
     by does = absurd does
-does_meant (Find bounds rules field pattern list files) lines limit s feed feed' old new (Unreadable place)
+does_meant finds (Find bounds rules field pattern list files) lines limit s feed feed' old new (Unreadable place)
     by does = absurd does
-does_meant (Find bounds rules field pattern list files) lines limit s feed feed' old new Unlisted
+does_meant finds (Find bounds rules field pattern list files) lines limit s feed feed' old new Unlisted
     by does = absurd does
-does_meant (Find bounds rules field pattern list files) lines limit s feed feed' old new Unwritable
+does_meant finds (Find bounds rules field pattern list files) lines limit s feed feed' old new Unwritable
     by does = absurd does
-does_meant (Tags bounds rules listing tagsfile format list files) lines limit s feed feed' old new
+does_meant finds (Tags bounds rules listing tagsfile format list files) lines limit s feed feed' old new
     (Ran ended) by does = (
       does.0,
       subst (λ text. WritesText text old new ended)
           (tags_by rules listing format s.timeline.present by) does.1,
     )
-does_meant (Tags bounds rules listing tagsfile format list files) lines limit s feed feed' old new
+does_meant finds (Tags bounds rules listing tagsfile format list files) lines limit s feed feed' old new
     (Served end) by does = absurd does
-does_meant (Tags bounds rules listing tagsfile format list files) lines limit s feed feed' old new
+does_meant finds (Tags bounds rules listing tagsfile format list files) lines limit s feed feed' old new
     (Unreadable place) by does = absurd does
-does_meant (Tags bounds rules listing tagsfile format list files) lines limit s feed feed' old new
+does_meant finds (Tags bounds rules listing tagsfile format list files) lines limit s feed feed' old new
     Unlisted by does = absurd does
-does_meant (Tags bounds rules listing tagsfile format list files) lines limit s feed feed' old new
+does_meant finds (Tags bounds rules listing tagsfile format list files) lines limit s feed feed' old new
     Unwritable by does = absurd does
-does_meant (Lsp bounds rules root list files) lines limit s feed feed' old new end by does = does
+does_meant finds (Lsp bounds rules root list files) lines limit s feed feed' old new end by does = does

@@ -2,15 +2,13 @@
 use Rattle.std.proofs.Common.{arith, ◌≡◌, ◌∙◌, ◌<◌, ap, length, string_bytes, take, String, subst}
 use Rattle.std.proofs.Common.{sym, refl, inr, ℕ, true, false, List, [], ◌∷◌, map, Option, Some}
 use Rattle.std.proofs.Common.{None, Result, Ok, Err}
-use Rattle.std.proofs.lemmas.Bool.{true≢false}
 use Rattle.std.proofs.lemmas.List.{length-map, take-map}
 use Rattle.std.specs.Global.{Global}
 use Rattle.cb_scan.specs.declared.profile.Profile.{Profile}
 use Rattle.cb_desk.specs.Timeline.{new_timeline}
 use Rattle.cb_desk.specs.World.{World, WorldBounds}
+use Rattle.cb_lsp.specs.Documents.{Looked}
 use Rattle.cb_session.specs.declared.input.Ended.{Ended}
-use Rattle.cb_session.specs.declared.input.Fault.{Fault as WhatFailed}
-use Rattle.cb_session.specs.declared.input.Fault.TheVariants.{Write}
 use Rattle.cb_session.specs.declared.input.Ended.TheVariants.{Done, Cut, Fault}
 use Rattle.cb_session.specs.declared.input.Ended.TheVariants.{Operand as StoppedAt}
 use Rattle.cb_session.specs.declared.operands.Operand.{Operand}
@@ -25,8 +23,9 @@ use Rattle.cb_words.specs.declared.job.Job.{Job}
 use Rattle.cb_words.specs.declared.job.Job.TheVariants.{Line, Find, Tags, Lsp}
 use Rattle.cbrowse.specs.Messages.{bounds_of, files_of, most_line_bytes}
 use Rattle.cbrowse.specs.Needs.{needed_of}
+use Rattle.cbrowse.specs.Program.{any_finding}
 use Rattle.cbrowse.specs.Program.{DoesFrom, DoesInto, DoesJob, DoesLoaded, MakesFile, Reaches}
-use Rattle.cbrowse.specs.Program.{Works, WritesFile, WritesText, file_text}
+use Rattle.cbrowse.specs.Program.{Works, file_text}
 use Rattle.cbrowse.specs.Program.{most_lines, writes_file}
 use Rattle.cbrowse.proofs.Narrowing.{does_meant, kept_by_loads, loads_meant, meant, meant_end}
 use Rattle.cbrowse.proofs.Narrowing.{text_meant}
@@ -84,29 +83,6 @@ stopped job ops b p feed out Done same alike named at = absurd at
 stopped job ops b p feed out Cut same alike named at = absurd at
 stopped job ops b p feed out (Fault fault) same alike named at = absurd at
 
--- a job that writes a tags file writes its text, and leaves the reader alone
-pub file_written : (job : Job) (lines limit : ℕ) (t : State) (feed feed' : Reader)
-    (old new : Writer) (ended : Ended) → writes_file job ≡ true
-    → DoesJob job lines limit t feed feed' old new (Ran ended)
-    → (feed' ≡ feed) × WritesText (file_text job t.timeline.present) old new ended
-file_written (Line bounds rules list files) lines limit t feed feed' old new ended writes does =
-    absurd (true≢false (sym writes))
-file_written (Find bounds rules field pattern list files) lines limit t feed feed' old new ended writes does =
-    absurd (true≢false (sym writes))
-file_written (Tags bounds rules listing tagsfile format list files) lines limit t feed feed' old new
-    ended writes does = does
-file_written (Lsp bounds rules root list files) lines limit t feed feed' old new ended writes does =
-    absurd (true≢false (sym writes))
-
--- where a write failed the file can't be written
-pub failed_file : (job : Job) (lines limit : ℕ) (t : State) (feed feed' : Reader) (old new : Writer)
-    (why : WhatFailed) → writes_file job ≡ true
-    → DoesJob job lines limit t feed feed' old new (Ran (Fault why)) → why ≡ Write
-    → WritesFile (file_text job t.timeline.present) old new Unwritable
-failed_file job lines limit t feed feed' old new why writes does is =
-    subst (λ fault. WritesText (file_text job t.timeline.present) old new (Fault fault)) is
-    (file_written job lines limit t feed feed' old new (Fault why) writes does).1
-
 goes : (job : Job) (t : State) (feed feed' : Reader) (out : Writer) (f : Finish)
     (file : Option Writer) → writes_file job ≡ true → Reaches job (Ok t)
     → MakesFile (file_text job t.timeline.present) file f → feed' ≡ feed
@@ -143,14 +119,14 @@ pub over_both : (job : Job) (b : WorldBounds) (lines limit : ℕ) (t : State) (f
     (out out' : Writer) (end : Finish) → b ≡ bounds_of job → lines ≡ most_lines
     → limit ≡ most_line_bytes b → writes_file job ≡ false
     → t.timeline.present.profile ≡ needed_of job
-    → DoesJob job lines limit t feed feed' out out' end
+    → DoesJob any_finding job lines limit t feed feed' out out' end
     → DoesFrom (meant job t) job feed feed' out out' end None
 over_both job b lines limit t feed feed' out out' end same all most writes by done =
     let most_of = most_line_bytes (bounds_of job) in
-    let does = does_meant job lines limit t feed feed' out out' end by done in
+    let does = does_meant any_finding job lines limit t feed feed' out out' end by done in
     subst (λ x. DoesInto x (meant job t) job feed feed' out out' end None) (sym writes) (
-      subst (λ n. DoesJob job n most_of (meant job t) feed feed' out out' end) all
-          (subst (λ m. DoesJob job lines m (meant job t) feed feed' out out' end)
+      subst (λ n. DoesJob any_finding job n most_of (meant job t) feed feed' out out' end) all
+          (subst (λ m. DoesJob any_finding job lines m (meant job t) feed feed' out out' end)
           (most ∙ ap most_line_bytes same) does),
       refl,
     )
@@ -163,33 +139,33 @@ HasRun (Unreadable place) = ⊥
 HasRun Unlisted = ⊥
 HasRun Unwritable = ⊥
 
-has_run : (job : Job) (lines limit : ℕ) (t : State) (feed feed' : Reader) (out out' : Writer)
-    (end : Finish) → DoesJob job lines limit t feed feed' out out' end → HasRun end
-has_run job lines limit t feed feed' out out' (Ran ended) does = tt
-has_run job lines limit t feed feed' out out' (Served end) does = tt
-has_run (Line bounds rules list files) lines limit t feed feed' out out' (Unreadable place) does =
+has_run : (finds : Looked → Type 0) (job : Job) (lines limit : ℕ) (t : State) (feed feed' : Reader)
+    (out out' : Writer) (end : Finish) → DoesJob finds job lines limit t feed feed' out out' end → HasRun end
+has_run finds job lines limit t feed feed' out out' (Ran ended) does = tt
+has_run finds job lines limit t feed feed' out out' (Served end) does = tt
+has_run finds (Line bounds rules list files) lines limit t feed feed' out out' (Unreadable place) does =
     does
-has_run (Find bounds rules field pattern list files) lines limit t feed feed' out out' (Unreadable place) does =
+has_run finds (Find bounds rules field pattern list files) lines limit t feed feed' out out' (Unreadable place) does =
     does
-has_run (Tags bounds rules listing tagsfile format list files) lines limit t feed feed' out out' (Unreadable place) does =
+has_run finds (Tags bounds rules listing tagsfile format list files) lines limit t feed feed' out out' (Unreadable place) does =
     does
-has_run (Lsp bounds rules root list files) lines limit t feed feed' out out' (Unreadable place) does =
+has_run finds (Lsp bounds rules root list files) lines limit t feed feed' out out' (Unreadable place) does =
     does
-has_run (Line bounds rules list files) lines limit t feed feed' out out' Unlisted does =
+has_run finds (Line bounds rules list files) lines limit t feed feed' out out' Unlisted does =
     does
-has_run (Find bounds rules field pattern list files) lines limit t feed feed' out out' Unlisted does =
+has_run finds (Find bounds rules field pattern list files) lines limit t feed feed' out out' Unlisted does =
     does
-has_run (Tags bounds rules listing tagsfile format list files) lines limit t feed feed' out out' Unlisted does =
+has_run finds (Tags bounds rules listing tagsfile format list files) lines limit t feed feed' out out' Unlisted does =
     does
-has_run (Lsp bounds rules root list files) lines limit t feed feed' out out' Unlisted does =
+has_run finds (Lsp bounds rules root list files) lines limit t feed feed' out out' Unlisted does =
     does
-has_run (Line bounds rules list files) lines limit t feed feed' out out' Unwritable does =
+has_run finds (Line bounds rules list files) lines limit t feed feed' out out' Unwritable does =
     does
-has_run (Find bounds rules field pattern list files) lines limit t feed feed' out out' Unwritable does =
+has_run finds (Find bounds rules field pattern list files) lines limit t feed feed' out out' Unwritable does =
     does
-has_run (Tags bounds rules listing tagsfile format list files) lines limit t feed feed' out out' Unwritable does =
+has_run finds (Tags bounds rules listing tagsfile format list files) lines limit t feed feed' out out' Unwritable does =
     does
-has_run (Lsp bounds rules root list files) lines limit t feed feed' out out' Unwritable does =
+has_run finds (Lsp bounds rules root list files) lines limit t feed feed' out out' Unwritable does =
     does
 
 -- the same, from where the loads of the operands lead
@@ -198,11 +174,11 @@ pub from_loads : (job : Job) (ops : List Operand) (b : WorldBounds) (p : Profile
     → p ≡ needed_of job → map (λ o. o.name.items) ops ≡ files_of job
     → LoadsAll p b (map file_of_operand ops) (Ok t) → lines ≡ most_lines
     → limit ≡ most_line_bytes b → writes_file job ≡ false
-    → DoesJob job lines limit t feed feed' out out' end
+    → DoesJob any_finding job lines limit t feed feed' out out' end
     → Works job feed feed' out out' end None
 from_loads job ops b p lines limit t feed feed' out out' end same alike named loads all most writes
     does =
-    go end (has_run job lines limit t feed feed' out out' end does)
+    go end (has_run any_finding job lines limit t feed feed' out out' end does)
     (over_both job b lines limit t feed feed' out out' end same all most writes
     (by_needed job ops b p t alike loads) does)
   where

@@ -16,6 +16,7 @@ use Rattle.cb_desk.specs.Tags.{tags, tags_text, listing_text}
 use Rattle.cb_desk.specs.World.{World, WorldBounds, File}
 use Rattle.cb_lsp.specs.declared.run.RunFault.{RunFault}
 use Rattle.cb_lsp.specs.declared.turn.Ending.{Ending}
+use Rattle.cb_lsp.specs.Documents.{Looked}
 use Rattle.cb_lsp.specs.Messages.{Serving, fresh_server}
 use Rattle.cb_lsp.specs.Runs.{LeavesRun}
 use Rattle.cb_session.specs.declared.input.Ended.{Ended}
@@ -80,12 +81,17 @@ version = codes "0.1.0"
 abbrev pub server_of : Option (List ℕ) → World → Serving
 server_of root w = fresh_server w (of_folder (unwrap_or root [])) (is_some root) version
 
--- the server has run over the input and output, whatever follows the bytes that were read
-abbrev pub RunsServer : Option (List ℕ) → World → Reader → Reader → Writer → Writer
-    → Result Ending RunFault → Type 0
-RunsServer root w feed feed' old new end =
+-- the server has run over the input and output, whatever follows the bytes that were read; what it
+-- read again is what is found there
+abbrev pub RunsServer : (finds : Looked → Type 0) → Option (List ℕ) → World → Reader → Reader → Writer
+    → Writer → Result Ending RunFault → Type 0
+RunsServer finds root w feed feed' old new end =
     (next : Serving) × WhateverFollows feed feed' (λ bytes left.
-    LeavesRun bytes (server_of root w) next left old new end)
+    LeavesRun finds bytes (server_of root w) next left old new end)
+
+-- nothing is known of what a process finds in its files
+abbrev pub any_finding : Looked → Type 0
+any_finding looked = Unit {0}
 
 -- ---- a job over a session
 
@@ -97,20 +103,20 @@ IsReady _ = Unit {0}
 
 -- a job is done from a timeline: a session or an editor is served; the rows of a search and tags
 -- are written, and the reader is left alone
-abbrev pub DoesJob : Job → (lines limit : ℕ) → State → Reader → Reader → Writer → Writer
+abbrev pub DoesJob : (finds : Looked → Type 0) → Job → (lines limit : ℕ) → State → Reader → Reader → Writer → Writer
     → Finish → Type 0
-DoesJob (Line bounds rules list files) lines limit s feed feed' old new (Ran ended) =
+DoesJob finds (Line bounds rules list files) lines limit s feed feed' old new (Ran ended) =
     (next : State) × Serves lines limit s next feed feed' old new ended
-DoesJob (Find bounds rules field pattern list files) lines limit s feed feed' old new (Ran ended) =
+DoesJob finds (Find bounds rules field pattern list files) lines limit s feed feed' old new (Ran ended) =
     (feed' ≡ feed)
     × WritesText (flat_map row_line (answer s.timeline.present field (string_bytes pattern)))
     old new ended
-DoesJob (Tags bounds rules listing tagsfile format list files)
+DoesJob finds (Tags bounds rules listing tagsfile format list files)
     lines limit s feed feed' old new (Ran ended) =
     (feed' ≡ feed) × WritesText (tags_output listing format s.timeline.present) old new ended
-DoesJob (Lsp bounds rules root list files) lines limit s feed feed' old new (Served end) =
-    RunsServer (option_map string_bytes root) s.timeline.present feed feed' old new end
-DoesJob _ lines limit s feed feed' old new _ = ⊥
+DoesJob finds (Lsp bounds rules root list files) lines limit s feed feed' old new (Served end) =
+    RunsServer finds (option_map string_bytes root) s.timeline.present feed feed' old new end
+DoesJob finds _ lines limit s feed feed' old new _ = ⊥
 
 -- ---- a job over files
 
@@ -212,7 +218,7 @@ abbrev pub DoesInto : (file : Bool) → State → Job → Reader → Reader → 
 DoesInto true s job feed feed' out out' end made =
     MakesFile (file_text job s.timeline.present) made end × LeavesAlone feed feed' out out'
 DoesInto false s job feed feed' out out' end made =
-    DoesJob job most_lines (most_line_bytes (bounds_of job)) s feed feed' out out' end
+    DoesJob any_finding job most_lines (most_line_bytes (bounds_of job)) s feed feed' out out' end
     × (made ≡ None)
 
 -- the same, as the words of the job ask for

@@ -152,8 +152,8 @@ fn serve_editor<D: Disk, R: BufRead, W: Write>(
     out: &mut Sink<W>,
 ) -> Result<Ending, RunFault>
     requires { 1 ≤ session.timeline.present.bounds.history }
-    ensures { RunsServer (option_map (λ folder. folder.now) root.entry) session.timeline.present
-        feed.old feed.new out.old out.new result }
+    ensures { RunsServer (D.finds disk.now) (option_map (λ folder. folder.now) root.entry)
+        session.timeline.present feed.old feed.new out.old out.new result }
 {
     let mut server = match server_of(alloc, root, session.into_desk()) {
         Ok(server) => server,
@@ -188,8 +188,8 @@ pub fn run_job<D: Disk, R: BufRead, W: Write>(
 ) -> Finish
     requires ready { IsReady job.now }
     requires bounds { session.timeline.present.bounds ≡ bounds_of job.now }
-    ensures { DoesJob job.now limits.now.lines limits.now.line session feed.old feed.new
-        out.old out.new result }
+    ensures { DoesJob (D.finds disk.now) job.now limits.now.lines limits.now.line session
+        feed.old feed.new out.old out.new result }
 {
     match job {
         Job::Line { .. } => {

@@ -10,12 +10,14 @@ use Rattle.cb_wire.specs.Texts.{readable}
 use Rattle.cb_wire.specs.Values.{value_text}
 use Rattle.cb_lsp.specs.Calls.{callables, item_of}
 use Rattle.cb_lsp.specs.Clients.{Client}
+use Rattle.cb_lsp.specs.Folds.{folded}
 use Rattle.cb_lsp.specs.Headers.{files_named}
 use Rattle.cb_lsp.specs.Highlights.{highlight, uses_of}
 use Rattle.cb_lsp.specs.Hovers.{hover_text}
 use Rattle.cb_lsp.specs.Symbols.{file_place, file_symbol_as, place_of, place_of_use}
 use Rattle.cb_lsp.specs.Symbols.{session_symbol}
 use Rattle.cb_lsp.specs.declared.calls.CallItems.{CallItems}
+use Rattle.cb_lsp.specs.declared.folds.Folds.{Folds}
 use Rattle.cb_lsp.specs.declared.highlights.Highlights.{Highlights}
 use Rattle.cb_lsp.specs.declared.hover.Hover.{Hover}
 use Rattle.cb_lsp.specs.declared.hover.Hovers.{Hovers}
@@ -87,6 +89,9 @@ abbrev pub highlights_left : Highlights → List (List ℕ)
 highlights_left h =
     map (λ u. value_text (highlight h.positions.encoding h.positions.text u))
     (uses_of h.positions.text h.name.now h.rest.now)
+
+abbrev pub folds_left : Folds → List (List ℕ)
+folds_left f = map value_text (folded f.source.now f.rest.now)
 
 abbrev pub hovers_left : Hovers → List (List ℕ)
 hovers_left h = map (λ t. escape (hover_text t)) (meaning_left h.rest)

@@ -1,15 +1,17 @@
 -- How the uses that are renamed are told, one after another.
 use Rattle.std.specs.Prelude.{ℕ, Bool, true, not, List, [], ◌∷◌, take, Option, None}
-use Rattle.std.specs.Prelude.{if◌then◌else◌}
+use Rattle.std.specs.Prelude.{◌≡◌, if◌then◌else◌}
+use Rattle.std.specs.List.{AllByRecursion}
+use Rattle.std.specs.Option.{option_map}
 use Rattle.std.specs.Str.{bytes_eq}
 use Rattle.cb_desk.specs.World.{File}
 use Rattle.cb_index.specs.Rows.{Fact}
 use Rattle.cb_wire.specs.Edits.{edit_text}
 use Rattle.cb_wire.specs.Uris.{uri_of}
 use Rattle.cb_lsp.specs.Clients.{Client}
-use Rattle.cb_lsp.specs.Documents.{Document, Oracle, Work}
-use Rattle.cb_lsp.specs.Renames.{Unrenamed, behind_file, no_memory, not_open, or_reason, unedited}
-use Rattle.cb_lsp.specs.Renames.{use_edit}
+use Rattle.cb_lsp.specs.Documents.{Document, Looked, Oracle, Work}
+use Rattle.cb_lsp.specs.Renames.{Check, Unrenamed, behind_file, check, no_memory, not_open}
+use Rattle.cb_lsp.specs.Renames.{then_check, use_edit}
 use Rattle.cb_lsp.specs.declared.rename.Renaming.{Renaming}
 use Rattle.cb_lsp.specs.declared.rename.Unedited.{Unedited}
 use Rattle.cb_lsp.specs.declared.rename.Unedited.TheVariants.{NoMemory, NotOpen}
@@ -49,17 +51,22 @@ abbrev pub reason_of : Unedited → Unrenamed
 reason_of (NotOpen file) = not_open file.now
 reason_of NoMemory = no_memory
 
--- why the file of a use is not edited, if so, and what is decided behind it: only the first use of a
--- file, which opens it, counts
-abbrev pub unedited_if : (opens : Bool) → Oracle → Work → (file : List ℕ) → Option Unrenamed
-unedited_if opens o w file = if opens then unedited o w file else None
+-- a check tells what a file comes to, and what was read for it is what is found there
+abbrev pub Tells : (finds : Looked → Type 0) → Check → Option Unedited → Type 0
+Tells finds k result = (option_map reason_of result ≡ k.why) × AllByRecursion finds k.read
+
+-- the file of a use is looked at, and what is decided behind it: only the first use of a file, which
+-- opens it, counts
+abbrev pub check_if : (opens : Bool) → Oracle → Client → Work → (file : List ℕ) → Check
+check_if opens o c w file =
+    if opens then check o c w file else record { why = None; read = [] }
 
 abbrev pub behind_if : (opens : Bool) → List Document → (file : List ℕ) → Oracle → Oracle
 behind_if opens ds file o = if opens then behind_file ds file o else o
 
--- the reason of the first file that has one, use by use
-unfoldable pub unedited_of_uses : Oracle → Work → (opens : Bool) → List Fact → Option Unrenamed
-unedited_of_uses o w opens [] = None
-unedited_of_uses o w opens (u ∷ us) =
-    or_reason (unedited_if opens o w u.file)
-    (unedited_of_uses (behind_if opens w.documents u.file o) w (is_last_of u.file us) us)
+-- the files of uses, use by use, up to the first one that is not edited
+unfoldable pub checks_of_uses : Oracle → Client → Work → (opens : Bool) → List Fact → Check
+checks_of_uses o c w opens [] = record { why = None; read = [] }
+checks_of_uses o c w opens (u ∷ us) =
+    then_check (check_if opens o c w u.file)
+    (checks_of_uses (behind_if opens w.documents u.file o) c w (is_last_of u.file us) us)

@@ -99,6 +99,10 @@ pub(crate) struct Folder<'a, R> {
 }
 
 impl<R: Files + AllocGlobal> Disk for Folder<'_, R> {
+    ghost use Rattle.cbrowse.specs.Program.{any_finding};
+
+    ghost finds = { λ folder. any_finding };
+
     fn read(&self, _alloc: Global, path: &[u8], most: u64) -> Found {
         match read_behind(self.rt, self.folder, most, path) {
             Ok(bytes) => Found::Holds(bytes),

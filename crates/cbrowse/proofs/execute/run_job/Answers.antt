@@ -15,7 +15,7 @@ returns-in-Find g c =
     subst (λ p. WritesText (flat_map row_line (answer c.args.session.timeline.present
     c.in-Find.field p)) c.args.out.now c.find_in.new.out c.find_in.result) c.as_bytes.ensures.value
     c.find_in.ensures in
-    let does : DoesJob (Find c.in-Find.bounds c.in-Find.rules c.in-Find.field c.in-Find.pattern
+    let does : DoesJob (g.D.Disk.finds c.args.disk.now) (Find c.in-Find.bounds c.in-Find.rules c.in-Find.field c.in-Find.pattern
     c.in-Find.list c.in-Find.files) c.args.limits.now.lines c.args.limits.now.line c.args.session
     c.args.feed.now c.args.feed.now c.args.out.now c.find_in.new.out (Ran c.find_in.result) =
     (refl, put) in
@@ -23,10 +23,10 @@ returns-in-Find g c =
 
 pub returns-in-Lsp : goal.returns-in-Lsp
 returns-in-Lsp g c =
-    let does : DoesJob (Lsp c.in-Lsp.bounds c.in-Lsp.rules c.in-Lsp.root c.in-Lsp.list
+    let does : DoesJob (g.D.Disk.finds c.args.disk.now) (Lsp c.in-Lsp.bounds c.in-Lsp.rules c.in-Lsp.root c.in-Lsp.list
     c.in-Lsp.files) c.args.limits.now.lines c.args.limits.now.line c.args.session c.args.feed.now
     c.serve_editor.new.feed c.args.out.now c.serve_editor.new.out (Served c.serve_editor.result) =
-    subst (λ root. RunsServer root c.args.session.timeline.present c.args.feed.now
+    subst (λ root. RunsServer (g.D.Disk.finds c.args.disk.now) root c.args.session.timeline.present c.args.feed.now
     c.serve_editor.new.feed c.args.out.now c.serve_editor.new.out c.serve_editor.result)
     c.as_deref.ensures.value c.serve_editor.ensures in
     rw c.in-Lsp.is does

@@ -1,31 +1,29 @@
-use Rattle.std.proofs.Common.{◌∙◌, ap, subst}
+use Rattle.std.proofs.Common.{List, Some, None, subst}
 use Rattle.cb_index.specs.Rows.{Fact}
-use Rattle.std.specs.Prelude.{List}
 use Rattle.cb_tags.specs.Writing.{Puts}
 use Rattle.cb_wire.specs.Messages.{id_json}
 use Rattle.cb_wire.specs.Texts.{frame}
 use Rattle.cb_wire.specs.Trees.{result_reply}
 use Rattle.cb_wire.specs.Values.{value_text}
-use Rattle.cb_lsp.specs.Answers.{answer_reply}
-use Rattle.cb_lsp.specs.Renames.{all_edits, files_of, first_unedited, renamed_if, renamed_uses}
+use Rattle.cb_lsp.specs.Renames.{all_edits, checks, files_of, renamed_uses}
 use Rattle.cb_lsp.specs.steps.Located.{client_in}
-use Rattle.cb_lsp.specs.steps.Renames.{work_in}
+use Rattle.cb_lsp.specs.steps.Renames.{Tells, reason_of, work_in}
+use Rattle.cb_lsp.proofs.Unedited.{renamed-none, renamed-so}
 use Rattle.cb_lsp.proofs.rename.Renaming.put_all.Goals as goal
 
 pub returns-in-Some : goal.returns-in-Some
 returns-in-Some g c =
     let f = c.args.self.now in
     let w = work_in f in
+    let cl = client_in f.asked.forms in
+    let finds = g.D.Disk.finds c.args.disk.now in
     let us = renamed_uses w.world f.asked.name.now f.asked.source.now c.args.word in
-    let why = c.in-Some.ensures in
-    let call = c.put_unedited in (
+    let why = c.in-Some.ensures in (
       why.0,
-      subst (λ r. Puts c.args.out.now call.new.out call.result (frame (value_text
-          (answer_reply (id_json c.args.id)
-          (renamed_if (client_in f.asked.forms) w.world.files f.new_name.now us r)))))
-          (why.1 ∙ ap (λ (vs : List Fact). first_unedited why.0 w (files_of vs))
-          c.uses.ensures.uses)
-          call.ensures,
+      renamed-so finds (checks why.0 cl w (files_of us)) cl w.world.files f.new_name.now us
+          (reason_of c.in-Some.why) (id_json c.args.id) _ _ c.put_unedited.result
+          (subst (λ (vs : List Fact). Tells finds (checks why.0 cl w (files_of vs))
+          (Some c.in-Some.why)) c.uses.ensures.uses why.1) c.put_unedited.ensures,
     )
 
 pub returns-in-None : goal.returns-in-None
@@ -33,14 +31,15 @@ returns-in-None g c =
     let f = c.args.self.now in
     let w = work_in f in
     let cl = client_in f.asked.forms in
+    let finds = g.D.Disk.finds c.args.disk.now in
     let us = renamed_uses w.world f.asked.name.now f.asked.source.now c.args.word in
     let why = c.in-None.ensures in
     let call = c.put_edits in (
       why.0,
-      subst (λ r. Puts c.args.out.now call.new.out call.result (frame (value_text
-          (answer_reply (id_json c.args.id) (renamed_if cl w.world.files f.new_name.now us r)))))
-          (why.1 ∙ ap (λ (vs : List Fact). first_unedited why.0 w (files_of vs))
-          c.uses.ensures.uses)
+      renamed-none finds (checks why.0 cl w (files_of us)) cl w.world.files f.new_name.now us
+          (id_json c.args.id) _ _ call.result
+          (subst (λ (vs : List Fact). Tells finds (checks why.0 cl w (files_of vs)) None)
+          c.uses.ensures.uses why.1)
           (subst (λ vs. Puts c.args.out.now call.new.out call.result (frame (value_text
           (result_reply (id_json c.args.id) (all_edits cl w.world.files f.new_name.now vs)))))
           c.uses-in-None.ensures.uses call.ensures),

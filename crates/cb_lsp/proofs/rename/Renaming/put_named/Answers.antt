@@ -1,9 +1,7 @@
 use Rattle.std.proofs.Common.{◌∙◌, subst, sym}
-use Rattle.cb_tags.specs.Writing.{Puts}
+use Rattle.cb_lsp.specs.Bodies.{Replies}
 use Rattle.cb_wire.specs.Messages.{id_json}
-use Rattle.cb_wire.specs.Texts.{frame}
-use Rattle.cb_wire.specs.Values.{value_text}
-use Rattle.cb_lsp.specs.Answers.{answer_reply}
+use Rattle.cb_lsp.specs.Answers.{reply_with}
 use Rattle.cb_lsp.specs.steps.Located.{client_in}
 use Rattle.cb_lsp.specs.steps.Renames.{work_in}
 use Rattle.cb_lsp.proofs.Notices.{quiet}
@@ -12,36 +10,38 @@ use Rattle.cb_lsp.proofs.rename.Renaming.put_named.Goals as goal
 
 pub returns-then-not-is_name : goal.returns-then-not-is_name
 returns-then-not-is_name g c =
+    let finds = g.D.Disk.finds c.args.disk.now in
     let f = c.args.self.now in (
       quiet,
-      subst (λ a. Puts c.args.out.now c.put_failure.new.out c.put_failure.result
-          (frame (value_text (answer_reply (id_json c.args.id) a))))
+      subst (λ a. Replies finds (reply_with (id_json c.args.id) a) c.args.out.now
+          c.put_failure.new.out c.put_failure.result)
           (renamed-bad quiet (client_in f.asked.forms) (work_in f) f.asked.name.now
           f.asked.source.now f.new_name.now c.args.word
           (sym c.is_name.ensures ∙ c.if-not-is_name.true))
-          c.put_failure.ensures,
+          (c.put_failure.ensures, tt),
     )
 
 pub returns-then-is_used : goal.returns-then-is_used
 returns-then-is_used g c =
+    let finds = g.D.Disk.finds c.args.disk.now in
     let f = c.args.self.now in (
       quiet,
-      subst (λ a. Puts c.args.out.now c.put_failure-then-is_used.new.out
-          c.put_failure-then-is_used.result
-          (frame (value_text (answer_reply (id_json c.args.id) a))))
+      subst (λ a. Replies finds (reply_with (id_json c.args.id) a) c.args.out.now
+          c.put_failure-then-is_used.new.out c.put_failure-then-is_used.result)
           (renamed-used quiet (client_in f.asked.forms) (work_in f) f.asked.name.now
           f.asked.source.now f.new_name.now c.args.word
           (sym c.is_name.ensures ∙ c.if-not-is_name.false)
-          (sym c.is_used.ensures ∙ c.if-is_used.true)) c.put_failure-then-is_used.ensures,
+          (sym c.is_used.ensures ∙ c.if-is_used.true)) (c.put_failure-then-is_used.ensures, tt),
     )
 
 pub returns : goal.returns
 returns g c =
+    let finds = g.D.Disk.finds c.args.disk.now in
     let f = c.args.self.now in
     let all = c.put_all.ensures in (
       all.0,
-      subst (λ a. Puts c.args.out.now c.put_all.new.out c.put_all.result
-          (frame (value_text (answer_reply (id_json c.args.id) a))))
+      subst (λ a. Replies finds (reply_with (id_json c.args.id) a) c.args.out.now
+          c.put_all.new.out c.put_all.result)
           (renamed-all all.0 (client_in f.asked.forms) (work_in f) f.asked.name.now
           f.asked.source.now f.new_name.now c.args.word
           (sym c.is_name.ensures ∙ c.if-not-is_name.false)

@@ -1,9 +1,7 @@
 use Rattle.std.proofs.Common.{subst, sym}
-use Rattle.cb_tags.specs.Writing.{Puts}
+use Rattle.cb_lsp.specs.Bodies.{Replies}
 use Rattle.cb_wire.specs.Messages.{id_json}
-use Rattle.cb_wire.specs.Texts.{frame}
-use Rattle.cb_wire.specs.Values.{value_text}
-use Rattle.cb_lsp.specs.Answers.{answer_reply}
+use Rattle.cb_lsp.specs.Answers.{reply_with}
 use Rattle.cb_lsp.specs.Renames.{renamed_word}
 use Rattle.cb_lsp.specs.steps.Located.{client_in}
 use Rattle.cb_lsp.specs.steps.Renames.{work_in}
@@ -12,21 +10,23 @@ use Rattle.cb_lsp.proofs.rename.Renaming.put_word.Goals as goal
 
 pub returns-in-Some : goal.returns-in-Some
 returns-in-Some g c =
+    let finds = g.D.Disk.finds c.args.disk.now in
     let f = c.args.self.now in
     let named = c.put_named.ensures in (
       named.0,
-      subst (λ x. Puts c.args.out.now c.put_named.new.out c.put_named.result (frame (value_text
-          (answer_reply (id_json c.args.id) (renamed_word named.0 (client_in f.asked.forms)
-          (work_in f) f.asked.name.now f.asked.source.now f.new_name.now x)))))
+      subst (λ x. Replies finds (reply_with (id_json c.args.id) (renamed_word named.0 (client_in f.asked.forms)
+          (work_in f) f.asked.name.now f.asked.source.now f.new_name.now x)) c.args.out.now
+          c.put_named.new.out c.put_named.result)
           (sym c.in-Some.is) named.1,
     )
 
 pub returns-in-None : goal.returns-in-None
 returns-in-None g c =
+    let finds = g.D.Disk.finds c.args.disk.now in
     let f = c.args.self.now in (
       quiet,
-      subst (λ x. Puts c.args.out.now c.put_failure.new.out c.put_failure.result (frame (value_text
-          (answer_reply (id_json c.args.id) (renamed_word quiet (client_in f.asked.forms) (work_in f)
-          f.asked.name.now f.asked.source.now f.new_name.now x)))))
-          (sym c.in-None.is) c.put_failure.ensures,
+      subst (λ x. Replies finds (reply_with (id_json c.args.id) (renamed_word quiet (client_in f.asked.forms) (work_in f)
+          f.asked.name.now f.asked.source.now f.new_name.now x)) c.args.out.now
+          c.put_failure.new.out c.put_failure.result)
+          (sym c.in-None.is) (c.put_failure.ensures, tt),
     )

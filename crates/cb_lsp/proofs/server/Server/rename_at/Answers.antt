@@ -18,7 +18,7 @@ returns-in-Ok-Some g c =
     ∙ ap (λ (s : Serving). name_below s.client.root.path path) c.self.view_is in
     let renamed = c.rename_in.ensures in (
       behind false renamed.0,
-      puts-renamed renamed.0 c.args.self.now c.args.uri.now path c.name-name.result.now
+      puts-renamed (g.D.Disk.finds c.args.disk.now) renamed.0 c.args.self.now c.args.uri.now path c.name-name.result.now
           c.args.position c.as_bytes-in-Ok-Some.result.now c.args.new_name.now
           (id_json c.args.id) _ _ c.rename_in.result found named
           c.as_bytes-in-Ok-Some.ensures.value renamed.1,
@@ -29,9 +29,9 @@ returns-in-Ok-None g c =
     let none = no-path cow_slice_items _ c.args.uri.now
     (c.in-Ok-None.ensures ∙ ap path_of c.as_bytes.ensures.value) c.in-Ok-None.field-0-is in (
       only false,
-      puts-renamed-nowhere c.args.self.now c.args.uri.now c.args.position c.args.new_name.now
+      puts-renamed-nowhere (g.D.Disk.finds c.args.disk.now) c.args.self.now c.args.uri.now c.args.position c.args.new_name.now
           (id_json c.args.id) _ _ c.put_failure.result none c.put_failure.ensures,
     )
 
 pub returns-in-Err : goal.returns-in-Err
-returns-in-Err g c = (only true, c.put_refusal.ensures)
+returns-in-Err g c = (only true, (c.put_refusal.ensures, tt))

@@ -1,13 +1,15 @@
-use Rattle.std.proofs.Common.{◌≡◌, ◌∙◌, subst, sym, true}
+use Rattle.std.proofs.Common.{◌≡◌, ◌∙◌, ap, refl, subst, sym, true}
+use Rattle.cb_desk.specs.World.{World}
 use Rattle.std.specs.Option.{option_copied}
 use Rattle.cb_lsp.specs.Documents.{is_renewed}
 use Rattle.cb_lsp.specs.Messages.{Serving}
 use Rattle.cb_lsp.specs.Models.{found_in}
-use Rattle.cb_lsp.proofs.Notices.{renewed-told}
+use Rattle.cb_lsp.proofs.Notices.{looked-so, renewed-told}
 use Rattle.cb_lsp.proofs.server.Server.renew.Goals as goal
 
 pub returns : goal.returns
 returns g c =
+    let finds = g.D.Disk.finds c.args.disk.now in
     let told = c.give_found-told in
     let name = c.name-name.result.now in
     let held : Serving = record {
@@ -26,8 +28,11 @@ returns g c =
     (sym c.renews.ensures ∙ c.if-not-renews.false) in (
       told.ensures.0,
       found_in c.read-found.result,
-      renewed-told told.ensures.0 (found_in c.read-found.result) held c.args.self.now
+      renewed-told finds told.ensures.0 (found_in c.read-found.result) held c.args.self.now
           c.args.path.now name told.new.self (option_copied told.result) c.args.out.now
           c.put_told.new.out c.put_told.result c.self.view_is c.name-name.ensures renews
-          told.ensures.1 c.put_told.ensures,
+          told.ensures.1 c.put_told.ensures
+          (looked-so finds c.self.inside.work.world _ c.args.path.now _ _
+          (found_in c.read-found.result) refl c.most_read.ensures.value
+          (ap (λ (w : World). w.bounds) c.desk.ensures) c.read-found.ensures),
     )

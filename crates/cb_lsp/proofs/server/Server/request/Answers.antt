@@ -3,9 +3,10 @@ use Rattle.cb_wire.specs.Messages.{id_json}
 use Rattle.cb_lsp.specs.Messages.{Serving}
 use Rattle.cb_lsp.specs.steps.Values.{seen}
 use Rattle.cb_lsp.specs.steps.Works.{only}
-use Rattle.cb_lsp.proofs.Answered.{does-as, does-same}
+use Rattle.cb_lsp.proofs.Answered.{by-as, by-none, by-same}
 use Rattle.cb_lsp.proofs.Notices.{quiet}
-use Rattle.cb_lsp.proofs.Requests.{requested-early, requested-first, requested-late}
+use Rattle.cb_lsp.proofs.Requests.{nothing-begun, requested-early, requested-first}
+use Rattle.cb_lsp.proofs.Requests.{requested-late}
 use Rattle.cb_lsp.proofs.server.Server.request.Goals as goal
 
 pub returns-then-eq : goal.returns-then-eq
@@ -14,8 +15,12 @@ returns-then-eq g c =
     let is = requested-first c.args.self.now.stage begun.0 c.args.self.now (id_json c.args.id)
     c.args.call.method.now (seen c.args.call.params)
     (sym (ap (λ (s : Serving). s.stage) c.self.view_is) ∙ c.in-Fresh.is)
-    (sym c.eq.ensures ∙ c.if-eq.true) in
-    (only begun.0, does-same _ _ _ _ _ _ is begun.1)
+    (sym c.eq.ensures ∙ c.if-eq.true) in (
+      only begun.0,
+      by-same (g.D.Disk.finds c.args.disk.now) _ _ _ _ _ _ is
+          (by-none (g.D.Disk.finds c.args.disk.now) _ _ _ _ _
+          (nothing-begun begun.0 c.args.self.now (id_json c.args.id) (seen c.args.call.params)) begun.1),
+    )
 
 pub returns-else-eq : goal.returns-else-eq
 returns-else-eq g c =
@@ -23,11 +28,11 @@ returns-else-eq g c =
     c.args.call.method.now (seen c.args.call.params)
     (sym (ap (λ (s : Serving). s.stage) c.self.view_is) ∙ c.in-Fresh.is)
     (sym c.eq.ensures ∙ c.if-eq.false) in
-    (quiet, does-as _ c.args.self.now _ _ _ _ _ is refl c.put_failure.ensures)
+    (quiet, by-as (g.D.Disk.finds c.args.disk.now) _ c.args.self.now _ _ _ _ _ is refl c.put_failure.ensures)
 
 pub returns-in-Down : goal.returns-in-Down
 returns-in-Down g c =
     let is = requested-late c.args.self.now.stage quiet c.args.self.now (id_json c.args.id)
     c.args.call.method.now (seen c.args.call.params)
     (sym (ap (λ (s : Serving). s.stage) c.self.view_is) ∙ c.in-Down.is) in
-    (quiet, does-as _ c.args.self.now _ _ _ _ _ is refl c.put_failure-in-Down.ensures)
+    (quiet, by-as (g.D.Disk.finds c.args.disk.now) _ c.args.self.now _ _ _ _ _ is refl c.put_failure-in-Down.ensures)

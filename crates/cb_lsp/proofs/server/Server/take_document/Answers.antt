@@ -2,7 +2,7 @@ use Rattle.std.proofs.Common.{Some, false, true, ◌∙◌, ap, refl}
 use Rattle.std.specs.Cow.{cow_slice_items}
 use Rattle.cb_wire.specs.Uris.{path_of}
 use Rattle.cb_lsp.specs.steps.Values.{seen}
-use Rattle.cb_lsp.proofs.Answered.{does-as, does-nothing, does-same}
+use Rattle.cb_lsp.proofs.Answered.{by-as, by-nothing, by-same}
 use Rattle.cb_lsp.proofs.Notices.{behind, no-path, noticed-none, noticed-nowhere, noticed-path}
 use Rattle.cb_lsp.proofs.Notices.{noticed-unread}
 use Rattle.cb_lsp.proofs.Notices.{path-found, quiet}
@@ -15,7 +15,7 @@ returns-in-Ok-Some g c =
     c.in-Ok-Some.path-is c.as_slice.ensures.value in
     let noticed = noticed-path c.args.notice c.take_path.ensures.0 c.args.self.now
     (seen c.args.params) c.in-Some.uri.now c.as_slice.result.now c.in-Some.ensures found in
-    (behind false c.take_path.ensures.0, does-same _ _ _ _ _ _ noticed c.take_path.ensures.1)
+    (behind false c.take_path.ensures.0, by-same _ _ _ _ _ _ _ noticed c.take_path.ensures.1)
 
 pub returns-in-Ok-None : goal.returns-in-Ok-None
 returns-in-Ok-None g c =
@@ -23,15 +23,15 @@ returns-in-Ok-None g c =
     (c.in-Ok-None.ensures ∙ ap path_of c.as_bytes.ensures.value) c.in-Ok-None.field-0-is in
     let noticed = noticed-nowhere c.args.notice c.args.self.now (seen c.args.params)
     c.in-Some.uri.now c.in-Some.ensures none in
-    (behind false quiet, does-nothing _ c.args.self.now _ c.args.out.now noticed refl)
+    (behind false quiet, by-nothing (g.D.Disk.finds c.args.disk.now) _ c.args.self.now _ c.args.out.now noticed refl)
 
 pub returns-in-Err : goal.returns-in-Err
 returns-in-Err g c =
     let unread = noticed-unread c.args.notice c.args.self.now (seen c.args.params)
     c.as_bytes-in-Err.result.now (ap Some c.as_bytes-in-Err.ensures.value ∙ c.in-Some.ensures) in
-    (behind true quiet, does-as _ c.args.self.now _ _ _ _ _ unread refl c.put_unread.ensures)
+    (behind true quiet, by-as (g.D.Disk.finds c.args.disk.now) _ c.args.self.now _ _ _ _ _ unread refl c.put_unread.ensures)
 
 pub returns-in_default : goal.returns-in_default
 returns-in_default g c =
     let none = noticed-none c.args.notice c.args.self.now (seen c.args.params) c.in_default.ensures in
-    (quiet, does-nothing _ c.args.self.now _ c.args.out.now none refl)
+    (quiet, by-nothing (g.D.Disk.finds c.args.disk.now) _ c.args.self.now _ c.args.out.now none refl)

@@ -2,22 +2,22 @@ use Rattle.std.proofs.Common.{◌≡◌, ◌∙◌, ◌+◌, Err, ap, drop, refl
 use Rattle.json.specs.Value.{items_view, value_view}
 use Rattle.cb_lsp.specs.Messages.{happened_in}
 use Rattle.cb_lsp.specs.Params.{items_in}
-use Rattle.cb_lsp.proofs.Answered.{does-nothing}
+use Rattle.cb_lsp.proofs.Answered.{by-nothing}
 use Rattle.cb_lsp.proofs.Events.{HappenedSo, in-list, so-begun, so-ends, so-fails, so-more}
 use Rattle.cb_lsp.proofs.Items.{items_view-drop, items_view-end}
 use Rattle.cb_lsp.proofs.Notices.{quiet}
 use Rattle.cb_lsp.proofs.server.Server.take_files.Goals as goal
 
 pub events-init : goal.events-init
-events-init g c = so-begun c.args.self.now c.args.out.now (items_view c.in-Some.events.now)
+events-init g c = so-begun (g.D.Disk.finds c.args.disk.now) c.args.self.now c.args.out.now (items_view c.in-Some.events.now)
 
 pub events-preserved : goal.events-preserved
 events-preserved g c =
     let vs = c.in-Some.events.now in
-    let so_far = subst (HappenedSo c.args.self.now c.events.self c.args.out.now c.events.out
+    let so_far = subst (HappenedSo (g.D.Disk.finds c.args.disk.now) c.args.self.now c.events.self c.args.out.now c.events.out
     (items_view vs)) (items_view-drop vs c.events.event-index c.event-item.result
     c.events-test.true c.event-item.is) c.events.invariant in
-    so-more c.args.self.now c.events.self c.take_event.new.self c.args.out.now c.events.out
+    so-more (g.D.Disk.finds c.args.disk.now) c.args.self.now c.events.self c.take_event.new.self c.args.out.now c.events.out
     c.take_event.new.out (items_view vs) (items_view (drop (c.events.event-index + 1) vs))
     (value_view c.event-item.result) c.take_event.ensures.0 c.take_event.ensures.1
     c.take_event.ensures.2
@@ -26,12 +26,12 @@ events-preserved g c =
 pub returns-in_err-take_event : goal.returns-in_err-take_event
 returns-in_err-take_event g c =
     let vs = c.in-Some.events.now in
-    let so_far = subst (HappenedSo c.args.self.now c.events.self c.args.out.now c.events.out
+    let so_far = subst (HappenedSo (g.D.Disk.finds c.args.disk.now) c.args.self.now c.events.self c.args.out.now c.events.out
     (items_view vs)) (items_view-drop vs c.events.event-index c.event-item.result
     c.events-test.true c.event-item.is) c.events.invariant in
     let err : c.from_residual.result ≡ Err c.in_err-take_event.field-0.0 = search rules in
-    in-list _ _ _ _ (items_view vs) _ _ (c.in-Some.ensures ∙ ap items_in c.member.ensures)
-    (so-fails c.args.self.now c.events.self c.take_event.new.self c.args.out.now c.events.out
+    in-list (g.D.Disk.finds c.args.disk.now) _ _ _ _ (items_view vs) _ _ (c.in-Some.ensures ∙ ap items_in c.member.ensures)
+    (so-fails (g.D.Disk.finds c.args.disk.now) c.args.self.now c.events.self c.take_event.new.self c.args.out.now c.events.out
     c.take_event.new.out (items_view vs) (items_view (drop (c.events.event-index + 1) vs))
     (value_view c.event-item.result) c.take_event.ensures.0 c.take_event.ensures.1
     c.take_event.ensures.2
@@ -41,7 +41,7 @@ returns-in_err-take_event g c =
 pub returns : goal.returns
 returns g c =
     let vs = c.in-Some.events.now in
-    so-ends c.args.self.now c.events.self c.args.out.now c.events.out (items_view vs)
+    so-ends (g.D.Disk.finds c.args.disk.now) c.args.self.now c.events.self c.args.out.now c.events.out (items_view vs)
     (items_view (drop c.events.event-index vs)) _
     (c.in-Some.ensures ∙ ap items_in c.member.ensures) c.events.invariant
     (items_view-end vs c.events.event-index c.events-test.false)
@@ -50,6 +50,6 @@ pub returns-in_default : goal.returns-in_default
 returns-in_default g c =
     let none = c.in_default.ensures ∙ ap items_in c.member.ensures in (
       quiet,
-      does-nothing _ c.args.self.now _ c.args.out.now (ap (happened_in quiet c.args.self.now) none)
+      by-nothing (g.D.Disk.finds c.args.disk.now) _ c.args.self.now _ c.args.out.now (ap (happened_in quiet c.args.self.now) none)
           refl,
     )

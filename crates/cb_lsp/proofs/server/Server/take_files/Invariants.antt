@@ -5,5 +5,5 @@ use Rattle.cb_lsp.proofs.server.Server.take_files.Given as goal
 
 abbrev pub invariant-events : goal.invariant-events
 invariant-events g l =
-    HappenedSo l.fn.self l.self l.fn.out l.out (items_view l.events)
+    HappenedSo (g.D.Disk.finds l.fn.disk) l.fn.self l.self l.fn.out l.out (items_view l.events)
     (items_view (drop l.event-index l.events))

@@ -14,16 +14,16 @@ unfolding does
 returns-in-Ok-None g c =
     let s = c.args.self.now in
     let P = IsValue (document c.args.text.now) in
-    subst (TakesBody P s s c.args.out.now c.log.new.out) (sym c.going_on.ensures)
-    (goes-on P (taken not_json quiet) s s c.args.out.now c.log.new.out c.log.result
+    subst (TakesBody (g.D.Disk.finds c.args.disk.now) P s s c.args.out.now c.log.new.out) (sym c.going_on.ensures)
+    (goes-on (g.D.Disk.finds c.args.disk.now) P (taken not_json quiet) s s c.args.out.now c.log.new.out c.log.result
     (subst (λ o. IsValue o not_json)
     (ap (λ v. option_map value_view v) (sym c.in-Ok-None.field-0-is) ∙ c.in-Ok-None.ensures) refl)
-    refl refl c.log.ensures)
+    refl refl refl c.log.ensures)
 
 pub returns-in-Err : goal.returns-in-Err
 returns-in-Err g c =
     let s = c.args.self.now in
     let P = IsValue (document c.args.text.now) in
-    subst (TakesBody P s s c.args.out.now c.log-in-Err.new.out) (sym c.going_on-in-Err.ensures)
-    (goes-on P refused s s c.args.out.now c.log-in-Err.new.out c.log-in-Err.result tt refl refl
-    c.log-in-Err.ensures)
+    subst (TakesBody (g.D.Disk.finds c.args.disk.now) P s s c.args.out.now c.log-in-Err.new.out) (sym c.going_on-in-Err.ensures)
+    (goes-on (g.D.Disk.finds c.args.disk.now) P refused s s c.args.out.now c.log-in-Err.new.out c.log-in-Err.result tt refl refl
+    refl c.log-in-Err.ensures)

@@ -13,6 +13,7 @@ use Rattle.cb_lsp.proofs.server.Server.turn.Goals as goal
 
 pub returns-in-Ok-Body : goal.returns-in-Ok-Body
 returns-in-Ok-Body g c =
+    let finds = g.D.Disk.finds c.args.disk.now in
     let s = c.args.self.now in
     let next = c.take_body-taken.new.self in
     let out = c.args.out.now in
@@ -21,10 +22,10 @@ returns-in-Ok-Body g c =
     Follows-so c.args.feed.now c.read.new.feed
     (λ bytes left. ReadsFrame (first bytes) left (Ok (Body c.in-Ok-Body.body)))
     (λ bytes left.
-    LeavesTurn (first bytes) s next left out c.go_on.new.out c.go_on.result)
+    LeavesTurn finds (first bytes) s next left out c.go_on.new.out c.go_on.result)
     (rw c.in-Ok-Body.field-0-is at c.in-Ok-Body.ensures.every_input)
     (λ bytes left read.
-    turn-left (first bytes) s next left took.0 read.0 out c.take_body-taken.new.out
+    turn-left finds (first bytes) s next left took.0 read.0 out c.take_body-taken.new.out
     c.go_on.new.out c.take_body-taken.result c.go_on.result
     (body-next (first bytes) left text took.0 read.0 read.1 took.1) read.2 took.2
     c.go_on.ensures)
@@ -32,68 +33,72 @@ returns-in-Ok-Body g c =
 pub returns-in-Ok-TooLarge : goal.returns-in-Ok-TooLarge
 unfolding does
 returns-in-Ok-TooLarge g c =
+    let finds = g.D.Disk.finds c.args.disk.now in
     let s = c.args.self.now in
     let out = c.args.out.now in
     let between = c.log.new.out in
     let new = c.go_on-in-Ok-TooLarge.new.out in
     let result = c.go_on-in-Ok-TooLarge.result in
     let t = taken too_large quiet in
-    let took : Takes t s s out between c.going_on-taken.result =
-    subst (Takes t s s out between) (sym c.going_on-taken.ensures)
-    (told t s out between c.log.result refl refl c.log.ensures) in
+    let took : Takes finds t s s out between c.going_on-taken.result =
+    subst (Takes finds t s s out between) (sym c.going_on-taken.ensures)
+    (told finds t s out between c.log.result refl refl refl c.log.ensures) in
     Follows-so c.args.feed.now c.read.new.feed
     (λ bytes left. ReadsFrame (first bytes) left (Ok TooLarge))
-    (λ bytes left. LeavesTurn (first bytes) s s left out new result)
+    (λ bytes left. LeavesTurn finds (first bytes) s s left out new result)
     (rw c.in-Ok-TooLarge.field-0-is at c.in-Ok-TooLarge.ensures.every_input)
     (λ bytes left read.
-    turn-left (first bytes) s s left t read.0 out between new c.going_on-taken.result result
+    turn-left finds (first bytes) s s left t read.0 out between new c.going_on-taken.result result
     (large-next (first bytes) read.0 read.1) read.2 took c.go_on-in-Ok-TooLarge.ensures)
 
 pub returns-in-Ok-OutOfMemory : goal.returns-in-Ok-OutOfMemory
 returns-in-Ok-OutOfMemory g c =
+    let finds = g.D.Disk.finds c.args.disk.now in
     let s = c.args.self.now in
     let out = c.args.out.now in
     let between = c.log-in-Ok-OutOfMemory.new.out in
     let new = c.go_on-in-Ok-OutOfMemory.new.out in
     let result = c.go_on-in-Ok-OutOfMemory.result in
-    let took : Takes refused s s out between c.going_on-taken-in-Ok-OutOfMemory.result =
-    subst (Takes refused s s out between) (sym c.going_on-taken-in-Ok-OutOfMemory.ensures)
-    (told refused s out between c.log-in-Ok-OutOfMemory.result refl refl
+    let took : Takes finds refused s s out between c.going_on-taken-in-Ok-OutOfMemory.result =
+    subst (Takes finds refused s s out between) (sym c.going_on-taken-in-Ok-OutOfMemory.ensures)
+    (told finds refused s out between c.log-in-Ok-OutOfMemory.result refl refl refl
     c.log-in-Ok-OutOfMemory.ensures) in
     Follows-so c.args.feed.now c.read.new.feed
     (λ bytes left. ReadsFrame (first bytes) left (Ok OutOfMemory))
-    (λ bytes left. LeavesTurn (first bytes) s s left out new result)
+    (λ bytes left. LeavesTurn finds (first bytes) s s left out new result)
     (rw c.in-Ok-OutOfMemory.field-0-is at c.in-Ok-OutOfMemory.ensures.every_input)
     (λ bytes left read.
-    turn-left (first bytes) s s left refused read.1 out between new
+    turn-left finds (first bytes) s s left refused read.1 out between new
     c.going_on-taken-in-Ok-OutOfMemory.result result
     (refused-next (first bytes) read.0 read.1 read.2) read.3 took
     c.go_on-in-Ok-OutOfMemory.ensures)
 
 pub returns-in-Ok-End : goal.returns-in-Ok-End
 returns-in-Ok-End g c =
+    let finds = g.D.Disk.finds c.args.disk.now in
     let s = c.args.self.now in
     let out = c.args.out.now in
     let how = c.ending_at.result in
     Follows-so c.args.feed.now c.read.new.feed
     (λ bytes left. ReadsFrame (first bytes) left (Ok End))
-    (λ bytes left. LeavesTurn (first bytes) s s left out out (Ok (Some how)))
+    (λ bytes left. LeavesTurn finds (first bytes) s s left out out (Ok (Some how)))
     (rw c.in-Ok-End.field-0-is at c.in-Ok-End.ensures.every_input)
     (λ bytes left read.
-    ends-so (first bytes) s left out how (ending_at s.stage)
+    ends-so finds (first bytes) s left out how (ending_at s.stage)
     (c.ending_at.ensures ∙ ap ending_at c.stage.ensures)
     (is-end (first bytes) s left s.stage refl (inl read)))
 
 pub returns-in-Err : goal.returns-in-Err
 returns-in-Err g c =
+    let finds = g.D.Disk.finds c.args.disk.now in
     let s = c.args.self.now in
     let out = c.args.out.now in
     let how = c.ending_of.result in
     let e = c.in-Err.error in
     Follows-so c.args.feed.now c.read.new.feed
     (λ bytes left. ReadsFrame (first bytes) left (Err e))
-    (λ bytes left. LeavesTurn (first bytes) s s left out out (Ok (Some how)))
+    (λ bytes left. LeavesTurn finds (first bytes) s s left out out (Ok (Some how)))
     c.in-Err.ensures.every_input
     (λ bytes left read.
-    ends-so (first bytes) s left out how (ending_of e) c.ending_of.ensures
+    ends-so finds (first bytes) s left out how (ending_of e) c.ending_of.ensures
     (is-unread (first bytes) s left e read))
