@@ -1,5 +1,5 @@
 //! What the wide profile finds: one pass over the pieces of a text.
-ghost use Rattle.std.specs.Prelude.{◌≡◌, ◌≤◌, length, map, IfOk};
+ghost use Rattle.std.specs.Prelude.{◌≡◌, ◌≤◌, [], length, map, IfOk};
 ghost use Rattle.cb_scan.specs.declared.source.TheConstants.{MOST_BYTES};
 ghost use Rattle.std.specs.List.{flat_map};
 ghost use Rattle.std.specs.List.Sorted.{IsPermutation};
@@ -13,6 +13,7 @@ ghost use Rattle.cb_scan.specs.rules.wide.Kinds.{functions_of, wide_function_def
 ghost use Rattle.cb_scan.specs.steps.Cut.{pieces};
 ghost use Rattle.cb_scan.specs.steps.Functions.{call_before};
 ghost use Rattle.cb_scan.specs.steps.wide.Gathering.{declared_in, objects_in, rules_with};
+ghost use Rattle.cb_scan.specs.steps.wide.Pass.{pass_start};
 
 use crate::facts::{Call, Facts};
 use crate::gather::{LineLists, push_some};
@@ -57,7 +58,69 @@ fn call_before(body: Option<Span>, last: Option<Token>, token: &Token) -> Option
     }
 }
 
-/// The one pass over a text: each piece is looked at once.
+/// The one pass over a text: each piece is looked at once. What it gathers is handed in empty.
+fn fill(uses: bool, text: &[u8], pass: &mut Joint, made: &mut Gathered) -> Result<(), AllocError>
+    requires text { length text.now ≤ MOST_BYTES }
+    requires start { pass.old ≡ pass_start }
+    requires found { made.old.found
+        ≡ record { functions = []; ranges = []; defs = []; objects = [] } }
+    requires calls { made.old.calls.items ≡ [] }
+    requires names { made.old.lines.names.items ≡ [] }
+    requires macros { made.old.lines.macros.items ≡ [] }
+    requires macro_ranges { made.old.lines.ranges.items ≡ [] }
+    requires macro_calls { made.old.lines.calls.items ≡ [] }
+    requires includes { made.old.lines.includes.items ≡ [] }
+    ensures functions { IfOk result
+        (λ _. made.new.found.functions
+        ≡ map wide_function_def (functions_of text.now (pieces text.now))) }
+    ensures ranges { IfOk result
+        (λ _. made.new.found.ranges
+        ≡ ranges_of text.now (pieces text.now) (functions_of text.now (pieces text.now))) }
+    ensures defs { IfOk result
+        (λ _. IsPermutation made.new.found.defs (declared_in text.now (pieces text.now))) }
+    ensures objects { IfOk result
+        (λ _. made.new.found.objects ≡ objects_in text.now (pieces text.now)) }
+    ensures calls { IfOk result
+        (λ _. made.new.calls.items ≡ calls_in (code text.now (pieces text.now))
+        (functions_of text.now (pieces text.now))) }
+    ensures names { IfOk result
+        (λ _. made.new.lines.names.items
+        ≡ kept uses (flat_map used (logical_lines text.now (pieces text.now)))) }
+    ensures macros { IfOk result
+        (λ _. made.new.lines.macros.items
+        ≡ map macro_def (macro_names text.now (pieces text.now))) }
+    ensures macro_ranges { IfOk result
+        (λ _. made.new.lines.ranges.items ≡ macro_ranges text.now (pieces text.now)) }
+    ensures macro_calls { IfOk result
+        (λ _. made.new.lines.calls.items ≡ macro_calls (macros text.now (pieces text.now))) }
+    ensures includes { IfOk result
+        (λ _. made.new.lines.includes.items
+        ≡ flat_map (include_of text.now) (directives text.now (pieces text.now))) }
+{
+    let mut reader = Reader::new();
+    let mut last = None;
+    let mut line = Stage::Start;
+    for lined in lined_pieces(text) {
+        if is_significant(lined.piece.class) {
+            let token = token_of(text, &lined);
+            made.lines.add(uses, text, &mut line, &token)?;
+            if line.is_code() {
+                push_some(&mut made.calls, call_before(pass.body(), last, &token))?;
+                reader.add(pass, &mut made.found, text, &token)?;
+                last = Some(token);
+            }
+        } else if is_newline(lined.piece.class) {
+            made.lines.end(&line, lined.piece.span.start)?;
+            line = Stage::Start;
+        }
+    }
+    made.lines.end(&line, text.len() as u32)?;
+    reader.finish(pass, &mut made.found)?;
+    made.found.end_function(pass.left_open(text.len() as u32))?;
+    Ok(())
+}
+
+/// What is gathered of a text.
 fn gather(alloc: Global, uses: bool, text: &[u8]) -> Result<Gathered, AllocError>
     requires { length text.now ≤ MOST_BYTES }
     ensures functions { IfOk result
@@ -86,35 +149,14 @@ fn gather(alloc: Global, uses: bool, text: &[u8]) -> Result<Gathered, AllocError
         (λ g. g.lines.includes.items
         ≡ flat_map (include_of text.now) (directives text.now (pieces text.now))) }
 {
-    let mut reader = Reader::new();
     let mut pass = Joint::new(alloc);
-    let mut found = Found::new(alloc);
-    let mut calls = Vec::new(alloc);
-    let mut last = None;
-    let mut lines = LineLists::new(alloc);
-    let mut line = Stage::Start;
-    for lined in lined_pieces(text) {
-        if is_significant(lined.piece.class) {
-            let token = token_of(text, &lined);
-            lines.add(uses, text, &mut line, &token)?;
-            if line.is_code() {
-                push_some(&mut calls, call_before(pass.body(), last, &token))?;
-                reader.add(&mut pass, &mut found, text, &token)?;
-                last = Some(token);
-            }
-        } else if is_newline(lined.piece.class) {
-            lines.end(&line, lined.piece.span.start)?;
-            line = Stage::Start;
-        }
-    }
-    lines.end(&line, text.len() as u32)?;
-    reader.finish(&mut pass, &mut found)?;
-    found.end_function(pass.left_open(text.len() as u32))?;
-    Ok(Gathered {
-        found,
-        calls,
-        lines,
-    })
+    let mut gathered = Gathered {
+        found: Found::new(alloc),
+        calls: Vec::new(alloc),
+        lines: LineLists::new(alloc),
+    };
+    fill(uses, text, &mut pass, &mut gathered)?;
+    Ok(gathered)
 }
 
 /// What is wanted of what the wide rules find in a text, with or without external declarations and

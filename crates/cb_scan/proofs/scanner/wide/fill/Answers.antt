@@ -25,7 +25,7 @@ use Rattle.cb_scan.proofs.GatherLemmas.{appended, code_off, code_on, kept_on, wa
 use Rattle.cb_scan.proofs.WideCallsRead.{calls_read}
 use Rattle.cb_scan.proofs.WideGathered.{beginning, calls_gathered, gathered_at_end}
 use Rattle.cb_scan.proofs.WideWhole.{read_all}
-use Rattle.cb_scan.proofs.scanner.wide.gather.Goals as goal
+use Rattle.cb_scan.proofs.scanner.wide.fill.Goals as goal
 
 -- nothing is gathered yet, and all is still to come
 pub loop-lined-init : goal.loop-lined-init
@@ -34,26 +34,26 @@ loop-lined-init c =
     let source = c.into_iter-lined-iterator.ensures.into_iter_gives ∙ c.lined_pieces-lined-items.ensures.value in
     let bounds = c.lined_pieces-lined-items.ensures in
     let reader = c.new-reader.ensures in
-    let pass = c.new-pass.ensures in
-    let found = c.new-found.ensures in
-    let lines = c.new-lines.ensures in
+    let pass = c.requires.start in
+    let found = c.requires.found in
+    let given = c.requires in
     record {
       read = (λ i. read_all text (reader i) (the_taken (pass i) (found i))
           (walk code_out nothing text Start (source i)))
           ∙ ap (read_all text reader_start beginning) (code_is text (pieces text));
-      calls_found = (λ i. c.new-calls.ensures.items i ++ calls_read text (reader i) (the_taken (pass i) (found i)) None
+      calls_found = (λ i. given.calls i ++ calls_read text (reader i) (the_taken (pass i) (found i)) None
           (walk code_out nothing text Start (source i)))
           ∙ ap (calls_read text reader_start beginning None) (code_is text (pieces text));
-      names_found = (λ i. lines.names i
+      names_found = (λ i. given.names i
           ++ kept c.args.uses (walk use_out nothing text Start (source i)))
           ∙ ap (kept c.args.uses) (uses_are text (pieces text));
-      macros_found = (λ i. lines.macros i ++ walk macro_out nothing text Start (source i))
+      macros_found = (λ i. given.macros i ++ walk macro_out nothing text Start (source i))
           ∙ macros_are text (pieces text);
-      macro_ranges_found = (λ i. lines.ranges i ++ walk no_range range_finish text Start (source i))
+      macro_ranges_found = (λ i. given.macro_ranges i ++ walk no_range range_finish text Start (source i))
           ∙ macro_ranges_are text (pieces text);
-      macro_calls_found = (λ i. lines.calls i ++ walk macro_call_out nothing text Start (source i))
+      macro_calls_found = (λ i. given.macro_calls i ++ walk macro_call_out nothing text Start (source i))
           ∙ macro_calls_are text (pieces text);
-      includes_found = (λ i. lines.includes i ++ walk (include_out text) nothing text Start (source i))
+      includes_found = (λ i. given.includes i ++ walk (include_out text) nothing text Start (source i))
           ∙ includes_are text (pieces text);
       within = subst (AllByRecursion (Within text))
           (sym c.into_iter-lined-iterator.ensures.into_iter_gives) bounds.within;
@@ -92,12 +92,12 @@ loop-lined-preserved-then-is_code c =
     c.loop-lined.lined-iterator c.next.new.self all_is is token_is line_is code_is in
     let rest = walk code_out nothing text c.add.new.line c.next.new.self in
     let r = c.loop-lined.reader in
-    let t = the_taken c.loop-lined.pass c.loop-lined.found in
+    let t = the_taken c.loop-lined.pass c.loop-lined.made.found in
     let token = c.token_of-token.result in
     record {
       read = (λ i. read_all text (code.reader i) (code.taken i) rest)
           ∙ sym (ap (read_all text r t) on) ∙ so_far.read;
-      calls_found = appended _ _ _ _ _ _ (told ∙ ap (λ o. c.loop-lined.calls.items ++ option_to_list o)
+      calls_found = appended _ _ _ _ _ _ (told ∙ ap (λ o. c.loop-lined.made.calls.items ++ option_to_list o)
           (c.call_before.ensures ∙ (λ i. call_before (c.body.ensures i) c.loop-lined.last token)))
           (ap (calls_read text r t c.loop-lined.last) on
           ∙ (λ i. option_to_list (call_before c.loop-lined.pass.body c.loop-lined.last token)
@@ -109,7 +109,7 @@ loop-lined-preserved-then-is_code c =
       macros_found = appended _ _ _ _ _ _ lines.macros
           (walk_on macro_out nothing text _ _ _ _ _ _ all_is is token_is line_is) so_far.macros_found;
       macro_ranges_found = ap (λ l. l ++ walk no_range range_finish text c.add.new.line c.next.new.self) lines.ranges
-          ∙ ap (λ l. c.loop-lined.lines.ranges.items ++ l)
+          ∙ ap (λ l. c.loop-lined.made.lines.ranges.items ++ l)
           (sym (walk_on no_range range_finish text _ _ _ _ _ _ all_is is token_is line_is)) ∙ so_far.macro_ranges_found;
       macro_calls_found = appended _ _ _ _ _ _ lines.calls
           (walk_on macro_call_out nothing text _ _ _ _ _ _ all_is is token_is line_is) so_far.macro_calls_found;
@@ -137,10 +137,10 @@ loop-lined-preserved-else-is_code c =
     let off = code_off text c.loop-lined.line c.add.new.line c.token_of-token.result c.in-Some.lined
     c.loop-lined.lined-iterator c.next.new.self all_is is token_is line_is code_is in
     let r = c.loop-lined.reader in
-    let t = the_taken c.loop-lined.pass c.loop-lined.found in
+    let t = the_taken c.loop-lined.pass c.loop-lined.made.found in
     record {
       read = sym (ap (read_all text r t) off) ∙ so_far.read;
-      calls_found = ap (λ ts. c.loop-lined.calls.items ++ calls_read text r t c.loop-lined.last ts) (sym off)
+      calls_found = ap (λ ts. c.loop-lined.made.calls.items ++ calls_read text r t c.loop-lined.last ts) (sym off)
           ∙ so_far.calls_found;
       names_found = appended _ _ _ _ _ _ lines.names
           (kept_on c.args.uses _ _ _
@@ -148,7 +148,7 @@ loop-lined-preserved-else-is_code c =
       macros_found = appended _ _ _ _ _ _ lines.macros
           (walk_on macro_out nothing text _ _ _ _ _ _ all_is is token_is line_is) so_far.macros_found;
       macro_ranges_found = ap (λ l. l ++ walk no_range range_finish text c.add.new.line c.next.new.self) lines.ranges
-          ∙ ap (λ l. c.loop-lined.lines.ranges.items ++ l)
+          ∙ ap (λ l. c.loop-lined.made.lines.ranges.items ++ l)
           (sym (walk_on no_range range_finish text _ _ _ _ _ _ all_is is token_is line_is)) ∙ so_far.macro_ranges_found;
       macro_calls_found = appended _ _ _ _ _ _ lines.calls
           (walk_on macro_call_out nothing text _ _ _ _ _ _ all_is is token_is line_is) so_far.macro_calls_found;
@@ -173,26 +173,26 @@ loop-lined-preserved-then-is_newline c =
     let same = lines.others in
     let s = c.loop-lined.line in
     let r = c.loop-lined.reader in
-    let t = the_taken c.loop-lined.pass c.loop-lined.found in
+    let t = the_taken c.loop-lined.pass c.loop-lined.made.found in
     let rest = c.next.new.self in
     let off = walk_end code_out nothing text s c.in-Some.lined c.loop-lined.lined-iterator rest all_is is in
     record {
       read = sym (ap (read_all text r t) off) ∙ so_far.read;
-      calls_found = ap (λ ts. c.loop-lined.calls.items ++ calls_read text r t c.loop-lined.last ts) (sym off)
+      calls_found = ap (λ ts. c.loop-lined.made.calls.items ++ calls_read text r t c.loop-lined.last ts) (sym off)
           ∙ so_far.calls_found;
       names_found = ap (λ l. l.names.items ++ kept c.args.uses (walk use_out nothing text Start rest)) same
-          ∙ ap (λ l. c.loop-lined.lines.names.items ++ kept c.args.uses l)
+          ∙ ap (λ l. c.loop-lined.made.lines.names.items ++ kept c.args.uses l)
           (sym (walk_end use_out nothing text s _ _ rest all_is is)) ∙ so_far.names_found;
       macros_found = ap (λ l. l.macros.items ++ walk macro_out nothing text Start rest) same
-          ∙ ap (λ l. c.loop-lined.lines.macros.items ++ l)
+          ∙ ap (λ l. c.loop-lined.made.lines.macros.items ++ l)
           (sym (walk_end macro_out nothing text s _ _ rest all_is is)) ∙ so_far.macros_found;
       macro_ranges_found = appended _ _ _ _ _ _ lines.ranges
           (walk_end no_range range_finish text s _ _ rest all_is is) so_far.macro_ranges_found;
       macro_calls_found = ap (λ l. l.calls.items ++ walk macro_call_out nothing text Start rest) same
-          ∙ ap (λ l. c.loop-lined.lines.calls.items ++ l)
+          ∙ ap (λ l. c.loop-lined.made.lines.calls.items ++ l)
           (sym (walk_end macro_call_out nothing text s _ _ rest all_is is)) ∙ so_far.macro_calls_found;
       includes_found = ap (λ l. l.includes.items ++ walk (include_out text) nothing text Start rest) same
-          ∙ ap (λ l. c.loop-lined.lines.includes.items ++ l)
+          ∙ ap (λ l. c.loop-lined.made.lines.includes.items ++ l)
           (sym (walk_end (include_out text) nothing text s _ _ rest all_is is)) ∙ so_far.includes_found;
       within = (subst (AllByRecursion (Within text)) all_is so_far.within).1;
       room = omega (arith, ap length all_is, so_far.room);
@@ -205,7 +205,7 @@ loop-lined-preserved-then-is_newline c =
 pub returns-clause-functions : goal.returns-clause-functions
 returns-clause-functions c =
     let whole = gathered_at_end c.args.text.now c.loop-lined.reader
-    (the_taken c.loop-lined.pass c.loop-lined.found) (the_taken c.finish.new.pass c.finish.new.found)
+    (the_taken c.loop-lined.pass c.loop-lined.made.found) (the_taken c.finish.new.pass c.finish.new.found)
     c.loop-lined.line c.loop-lined.lined-iterator c.in_ok-finish.ensures c.in-None.ensures.steps.0
     c.loop-lined.invariant.read in
     ap (λ (l : Lists). l.functions) c.in_ok-end_function.ensures ∙ whole.functions
@@ -213,7 +213,7 @@ returns-clause-functions c =
 pub returns-clause-ranges : goal.returns-clause-ranges
 returns-clause-ranges c =
     let whole = gathered_at_end c.args.text.now c.loop-lined.reader
-    (the_taken c.loop-lined.pass c.loop-lined.found) (the_taken c.finish.new.pass c.finish.new.found)
+    (the_taken c.loop-lined.pass c.loop-lined.made.found) (the_taken c.finish.new.pass c.finish.new.found)
     c.loop-lined.line c.loop-lined.lined-iterator c.in_ok-finish.ensures c.in-None.ensures.steps.0
     c.loop-lined.invariant.read in
     ap (λ (l : Lists). l.ranges) c.in_ok-end_function.ensures
@@ -222,7 +222,7 @@ returns-clause-ranges c =
 pub returns-clause-defs : goal.returns-clause-defs
 returns-clause-defs c =
     let whole = gathered_at_end c.args.text.now c.loop-lined.reader
-    (the_taken c.loop-lined.pass c.loop-lined.found) (the_taken c.finish.new.pass c.finish.new.found)
+    (the_taken c.loop-lined.pass c.loop-lined.made.found) (the_taken c.finish.new.pass c.finish.new.found)
     c.loop-lined.line c.loop-lined.lined-iterator c.in_ok-finish.ensures c.in-None.ensures.steps.0
     c.loop-lined.invariant.read in
     subst (λ (ds : List Def). IsPermutation ds (declared_in c.args.text.now (pieces c.args.text.now)))
@@ -231,7 +231,7 @@ returns-clause-defs c =
 pub returns-clause-objects : goal.returns-clause-objects
 returns-clause-objects c =
     let whole = gathered_at_end c.args.text.now c.loop-lined.reader
-    (the_taken c.loop-lined.pass c.loop-lined.found) (the_taken c.finish.new.pass c.finish.new.found)
+    (the_taken c.loop-lined.pass c.loop-lined.made.found) (the_taken c.finish.new.pass c.finish.new.found)
     c.loop-lined.line c.loop-lined.lined-iterator c.in_ok-finish.ensures c.in-None.ensures.steps.0
     c.loop-lined.invariant.read in
     ap (λ (l : Lists). l.objects) c.in_ok-end_function.ensures ∙ whole.objects
@@ -239,10 +239,10 @@ returns-clause-objects c =
 pub returns-clause-calls : goal.returns-clause-calls
 unfolding calls_read
 returns-clause-calls c =
-    sym (append-nil c.loop-lined.calls.items)
-    ∙ sym (ap (λ xs. c.loop-lined.calls.items
+    sym (append-nil c.loop-lined.made.calls.items)
+    ∙ sym (ap (λ xs. c.loop-lined.made.calls.items
     ++ calls_read c.args.text.now c.loop-lined.reader
-    (the_taken c.loop-lined.pass c.loop-lined.found) c.loop-lined.last
+    (the_taken c.loop-lined.pass c.loop-lined.made.found) c.loop-lined.last
     (walk code_out nothing c.args.text.now c.loop-lined.line xs)) c.in-None.ensures.steps.0)
     ∙ c.loop-lined.invariant.calls_found
     ∙ calls_gathered c.args.text.now

@@ -17,27 +17,27 @@ use Rattle.cb_scan.specs.steps.wide.Reading.{held_len, most_left_out, reader_sta
 use Rattle.cb_scan.proofs.WideCallsRead.{calls_read}
 use Rattle.cb_scan.proofs.WideGathered.{beginning}
 use Rattle.cb_scan.proofs.WideWhole.{read_all}
-use Rattle.cb_scan.proofs.scanner.wide.gather.Given as goal
+use Rattle.cb_scan.proofs.scanner.wide.fill.Given as goal
 
 abbrev pub invariant-loop-lined : goal.invariant-loop-lined
 invariant-loop-lined l = record {
-  read : read_all l.text l.reader (the_taken l.pass l.found)
+  read : read_all l.text l.reader (the_taken l.pass l.made.found)
       (walk code_out nothing l.text l.line l.lined-iterator)
       ≡ read_all l.text reader_start beginning (code l.text (pieces l.text));
-  calls_found : l.calls.items
-      ++ calls_read l.text l.reader (the_taken l.pass l.found) l.last
+  calls_found : l.made.calls.items
+      ++ calls_read l.text l.reader (the_taken l.pass l.made.found) l.last
       (walk code_out nothing l.text l.line l.lined-iterator)
       ≡ calls_read l.text reader_start beginning None (code l.text (pieces l.text));
-  names_found : l.lines.names.items
+  names_found : l.made.lines.names.items
       ++ kept l.uses (walk use_out nothing l.text l.line l.lined-iterator)
       ≡ kept l.uses (flat_map used (logical_lines l.text (pieces l.text)));
-  macros_found : l.lines.macros.items ++ walk macro_out nothing l.text l.line l.lined-iterator
+  macros_found : l.made.lines.macros.items ++ walk macro_out nothing l.text l.line l.lined-iterator
       ≡ map macro_def (macro_names l.text (pieces l.text));
-  macro_ranges_found : l.lines.ranges.items ++ walk no_range range_finish l.text l.line l.lined-iterator
+  macro_ranges_found : l.made.lines.ranges.items ++ walk no_range range_finish l.text l.line l.lined-iterator
       ≡ macro_ranges l.text (pieces l.text);
-  macro_calls_found : l.lines.calls.items ++ walk macro_call_out nothing l.text l.line l.lined-iterator
+  macro_calls_found : l.made.lines.calls.items ++ walk macro_call_out nothing l.text l.line l.lined-iterator
       ≡ macro_calls (macros l.text (pieces l.text));
-  includes_found : l.lines.includes.items ++ walk (include_out l.text) nothing l.text l.line l.lined-iterator
+  includes_found : l.made.lines.includes.items ++ walk (include_out l.text) nothing l.text l.line l.lined-iterator
       ≡ flat_map (include_of l.text) (directives l.text (pieces l.text));
   within : AllByRecursion (Within l.text) l.lined-iterator;
   room : most_in l.pass + held_len l.reader + length l.lined-iterator ≤ MOST_BYTES;
