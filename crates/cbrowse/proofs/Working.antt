@@ -1,6 +1,6 @@
 -- A job over files: from the loads to what is done.
 use Rattle.std.proofs.Common.{arith, ◌≡◌, ◌∙◌, ◌<◌, ap, length, string_bytes, take, String, subst}
-use Rattle.std.proofs.Common.{sym, refl, inr, ℕ, true, false, List, [], ◌∷◌, map, Option, Some}
+use Rattle.std.proofs.Common.{sym, refl, inr, ℕ, Bool, true, false, List, [], ◌∷◌, map, Option, Some}
 use Rattle.std.proofs.Common.{None, Result, Ok, Err}
 use Rattle.std.proofs.lemmas.List.{length-map, take-map}
 use Rattle.std.specs.Global.{Global}
@@ -104,30 +104,24 @@ goes job t feed feed' out (Unreadable place) None writes reached makes same = ab
 goes job t feed feed' out Unlisted (Some file) writes reached makes same = absurd makes.1
 goes job t feed feed' out Unlisted None writes reached makes same = absurd makes
 
--- a job that writes a tags file
+-- a job that writes a tags file, and one over the input and the output
 pub into_file : (job : Job) (s : State) (feed feed' : Reader) (out : Writer) (f : Finish)
-    (file : Option Writer) → writes_file job ≡ true → Reaches job (Ok (meant job s))
-    → s.timeline.present.profile ≡ needed_of job
+    (file : Option Writer) → writes_file job ≡ true
     → MakesFile (file_text job s.timeline.present) file f → feed' ≡ feed
-    → Works job feed feed' out out f file
-into_file job s feed feed' out f file writes reached by makes same =
-    goes job (meant job s) feed feed' out f file writes reached
-    (subst (λ text. MakesFile text file f) (text_meant job s by) makes) same
+    → DoesFrom s job feed feed' out out f file
+into_file job s feed feed' out f file writes makes same =
+    subst (λ b. DoesInto b s job feed feed' out out f file) (sym writes) (makes, (same, refl))
 
--- a job over the input and the output
-pub over_both : (job : Job) (b : WorldBounds) (lines limit : ℕ) (t : State) (feed feed' : Reader)
-    (out out' : Writer) (end : Finish) → b ≡ bounds_of job → lines ≡ most_lines
-    → limit ≡ most_line_bytes b → writes_file job ≡ false
-    → t.timeline.present.profile ≡ needed_of job
-    → DoesJob any_finding job lines limit t feed feed' out out' end
-    → DoesFrom (meant job t) job feed feed' out out' end None
-over_both job b lines limit t feed feed' out out' end same all most writes by done =
+pub over_both : (job : Job) (lines limit : ℕ) (s : State) (feed feed' : Reader)
+    (out out' : Writer) (end : Finish) → lines ≡ most_lines
+    → limit ≡ most_line_bytes (bounds_of job) → writes_file job ≡ false
+    → DoesJob any_finding job lines limit s feed feed' out out' end
+    → DoesFrom s job feed feed' out out' end None
+over_both job lines limit s feed feed' out out' end all most writes does =
     let most_of = most_line_bytes (bounds_of job) in
-    let does = does_meant any_finding job lines limit t feed feed' out out' end by done in
-    subst (λ x. DoesInto x (meant job t) job feed feed' out out' end None) (sym writes) (
-      subst (λ n. DoesJob any_finding job n most_of (meant job t) feed feed' out out' end) all
-          (subst (λ m. DoesJob any_finding job lines m (meant job t) feed feed' out out' end)
-          (most ∙ ap most_line_bytes same) does),
+    subst (λ b. DoesInto b s job feed feed' out out' end None) (sym writes) (
+      subst (λ n. DoesJob any_finding job n most_of s feed feed' out out' end) all
+          (subst (λ m. DoesJob any_finding job lines m s feed feed' out out' end) most does),
       refl,
     )
 
@@ -168,30 +162,47 @@ has_run finds (Tags bounds rules listing tagsfile format list files) lines limit
 has_run finds (Lsp bounds rules root list files) lines limit t feed feed' out out' Unwritable does =
     does
 
--- the same, from where the loads of the operands lead
-pub from_loads : (job : Job) (ops : List Operand) (b : WorldBounds) (p : Profile) (lines limit : ℕ)
-    (t : State) (feed feed' : Reader) (out out' : Writer) (end : Finish) → b ≡ bounds_of job
-    → p ≡ needed_of job → map (λ o. o.name.items) ops ≡ files_of job
-    → LoadsAll p b (map file_of_operand ops) (Ok t) → lines ≡ most_lines
-    → limit ≡ most_line_bytes b → writes_file job ≡ false
-    → DoesJob any_finding job lines limit t feed feed' out out' end
-    → Works job feed feed' out out' end None
-from_loads job ops b p lines limit t feed feed' out out' end same alike named loads all most writes
-    does =
-    go end (has_run any_finding job lines limit t feed feed' out out' end does)
-    (over_both job b lines limit t feed feed' out out' end same all most writes
-    (by_needed job ops b p t alike loads) does)
+-- a job from where the loads of its operands lead
+pub from_loads : (job : Job) (ops : List Operand) (b : WorldBounds) (p : Profile) (s : State)
+    (feed feed' : Reader) (out out' : Writer) (end : Finish) (file : Option Writer)
+    → b ≡ bounds_of job → p ≡ needed_of job → map (λ o. o.name.items) ops ≡ files_of job
+    → LoadsAll p b (map file_of_operand ops) (Ok s)
+    → DoesFrom s job feed feed' out out' end file → Works job feed feed' out out' end file
+from_loads job ops b p s feed feed' out out' end file same alike named loads does =
+    by (writes_file job) refl does
   where
-    reached : Reaches job (Ok (meant job t))
-    reached = reaches job ops b p (Ok t) same alike named loads
+    t : State
+    t = meant job s
 
-    go : (e : Finish) → HasRun e → DoesFrom (meant job t) job feed feed' out out' e None
+    reached : Reaches job (Ok t)
+    reached = reaches job ops b p (Ok s) same alike named loads
+
+    kept : s.timeline.present.profile ≡ needed_of job
+    kept = by_needed job ops b p s alike loads
+
+    go : (e : Finish) → HasRun e → DoesFrom t job feed feed' out out' e None
         → Works job feed feed' out out' e None
-    go (Ran ended) ran from = inr (Ok (meant job t), reached, from)
-    go (Served how) ran from = (meant job t, reached, from)
+    go (Ran ended) ran from = inr (Ok t, reached, from)
+    go (Served how) ran from = (t, reached, from)
     go (Unreadable place) ran from = absurd ran
     go Unlisted ran from = absurd ran
     go Unwritable ran from = absurd ran
+
+    by : (into : Bool) → writes_file job ≡ into
+        → DoesInto into s job feed feed' out out' end file → Works job feed feed' out out' end file
+    by true writes (makes, (left, alone)) =
+        subst (λ o. Works job feed feed' out o end file) (sym alone)
+        (goes job t feed feed' out end file writes reached
+        (subst (λ text. MakesFile text file end) (text_meant job s kept) makes) left)
+    by false writes (done, none) =
+        subst (λ f. Works job feed feed' out out' end f) (sym none)
+        (go end (has_run any_finding job most_lines (most_line_bytes (bounds_of job)) s feed feed'
+        out out' end done)
+        (subst (λ x. DoesInto x t job feed feed' out out' end None) (sym writes) (
+          does_meant any_finding job most_lines (most_line_bytes (bounds_of job)) s feed feed' out
+              out' end kept done,
+          refl,
+        )))
 
 -- a file that can't be read, behind those that were
 pub stops_at : (names : List (List ℕ)) (files : List (String Global)) (idx place : ℕ) → place ≡ idx

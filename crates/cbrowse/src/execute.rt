@@ -18,6 +18,7 @@ ghost use Rattle.cbrowse.specs.Program.{
   writes_file,
   WritesFile,
   WritesText,
+  DoesFrom,
   DoesJob,
   fresh,
   Works,
@@ -284,8 +285,41 @@ fn run_job_into<D: Disk, I: BufRead, W: Write>(
     (end, out)
 }
 
+/// Does a job from a session in which its files are loaded. A tags file is made or emptied only
+/// here, and handed back.
+fn do_job<R: Files + AllocGlobal, I: BufRead, O: Write>(
+    rt: &R,
+    folder: &str,
+    job: &Job,
+    session: Session,
+    feed: &mut Feed<I>,
+    out: &mut Sink<O>,
+) -> (Finish, Option<Sink<TagsFile<R::File>>>)
+    requires ready { IsReady job.now }
+    requires bounds { session.timeline.present.bounds ≡ bounds_of job.now }
+    ensures { DoesFrom session job.now feed.old feed.new out.old out.new result.0 result.1 }
+{
+    let disk = Folder { rt, folder };
+    match output_file(job) {
+        Some(name) => match make_file(rt, folder, name) {
+            Ok(writer) => {
+                let (end, file) = run_job_into(rt.alloc(), &disk, job, session, feed, writer);
+                (end, Some(file))
+            }
+            Err(end) => (end, None),
+        },
+        None => {
+            let limits = limits(bounds_of(job));
+            (
+                run_job(rt.alloc(), &disk, job, &limits, session, feed, out),
+                None,
+            )
+        }
+    }
+}
+
 /// Does a job: every file is read, then all are loaded, where no fact is sought that the job does
-/// not read, and only then a tags file is made or emptied, which is handed back.
+/// not read, and only then something is done with them.
 fn work<R: Files + AllocGlobal, I: BufRead, O: Write>(
     rt: &R,
     folder: &str,
@@ -306,23 +340,7 @@ fn work<R: Files + AllocGlobal, I: BufRead, O: Write>(
         Ok(session) => session,
         Err(ended) => return (Finish::Ran(ended), None),
     };
-    let disk = Folder { rt, folder };
-    match output_file(job) {
-        Some(name) => match make_file(rt, folder, name) {
-            Ok(writer) => {
-                let (end, file) = run_job_into(rt.alloc(), &disk, job, session, feed, writer);
-                (end, Some(file))
-            }
-            Err(end) => (end, None),
-        },
-        None => {
-            let limits = limits(bounds);
-            (
-                run_job(rt.alloc(), &disk, job, &limits, session, feed, out),
-                None,
-            )
-        }
-    }
+    do_job(rt, folder, job, session, feed, out)
 }
 
 /// Does a job, to which the names of its list were added, if it has one.
