@@ -28,9 +28,9 @@ ask       `definition`, `hover` and `documentHighlight` at a thousand names in t
           holds. The last two look at all names, unless 1,000 of them hold the text.
 change    `didChange` of a document of 50 kB and of one of 1 MB, each time another text: until a
           `documentSymbol` of a tiny document behind it is answered; and the same where one letter
-          is sent, which changes at its place. Beside them the message with a whole text for a
-          document that is not open, which is read and passed over. Then the most that is resident,
-          beside what it was before.
+          is sent, which changes at its place; and `foldingRange` of that document. Beside them the
+          message with a whole text for a document that is not open, which is read and passed over.
+          Then the most that is resident, beside what it was before.
 memory    What is resident after 20 and after 2,000 changes of a document of 50 kB.
 line      `documentSymbol` of a text of one line, `f(){}` again and again, and of one twice as long.
 clangd    The same of clangd with twenty of the files, where it is installed. There is no
@@ -496,6 +496,8 @@ def change(cbrowse, names, folder):
         few = letters(server, text_of(folder, names, size), CHANGES)
         put_all(f"didChange, a letter of {label}", server, few, nothing)
         check_taken(server, (CHANGES - 1) % 2)
+        folds = frame("textDocument/foldingRange", server.document(BIG), 1)
+        put_all(f"foldingRange, {label}", server, [folds] * CHANGES, nothing)
         put_resident(f"memory after {label}", server, before)
         server.tell("textDocument/didClose", server.document(BIG))
         print(f"{'':<34}the message has {len(messages[0]):,} bytes")

@@ -146,6 +146,7 @@ class Row(NamedTuple):
     status: int = 0
     said: bytes = b""
     disk: dict[pathlib.Path, Optional[bytes]] = {}  # files, and folders without a text
+    writes: dict[int, dict[pathlib.Path, bytes]] = {}  # those that change before a message
 
     @property
     def given(self) -> bytes:
@@ -336,6 +337,7 @@ def row_of(lines: list[str], room: pathlib.Path = pathlib.Path("/w")) -> Row:
     turns = [initialize("plain"), INITIALIZED]
     ending, status, said = ENDING, 0, b""
     disk: dict[pathlib.Path, Optional[bytes]] = {}
+    writes: dict[int, dict[pathlib.Path, bytes]] = {}
     for line in lines[1:]:
         word, _, rest = repeated(line).partition(" ")
         if word in ("", "#"):
@@ -350,6 +352,9 @@ def row_of(lines: list[str], room: pathlib.Path = pathlib.Path("/w")) -> Row:
         elif word in ("disk", "folder"):
             file, _, text = rest.partition(" ")
             disk[pathlib.Path(root, file)] = plain(text) if word == "disk" else None
+        elif word == "write":
+            file, _, text = rest.partition(" ")
+            writes.setdefault(len(turns), {})[pathlib.Path(root, file)] = plain(text)
         elif word == "client":
             turns = [] if rest == "none" else [initialize(rest), INITIALIZED]
         elif word == "end":
@@ -362,7 +367,7 @@ def row_of(lines: list[str], room: pathlib.Path = pathlib.Path("/w")) -> Row:
                 turns.append((sent, b""))
             else:
                 turns[-1] = (turns[-1][0], turns[-1][1] + written_by(word, rest))
-    return Row(name, words, files, turns + ending, status, said, disk)
+    return Row(name, words, files, turns + ending, status, said, disk, writes)
 
 
 def rows(room: pathlib.Path) -> list[Row]:
@@ -535,6 +540,8 @@ class Checks:
         pipes = {it: subprocess.PIPE for it in ("stdin", "stdout", "stderr")}
         run = self.start(row, folder=self.place(row), bufsize=0, **pipes)
         for number, (sent, written) in enumerate(row.turns):
+            for path, text in row.writes.get(number, {}).items():
+                path.write_bytes(text)
             run.stdin.write(sent)
             got = b""
             while len(got) < len(written):
@@ -543,7 +550,7 @@ class Checks:
                 if not more:
                     break
                 got += more
-            self.expect(f"a client that waits, message {number}", (got,), (written,))
+            self.expect(f"{row.name}, message {number}", (got,), (written,))
         # it ends by itself, while the client still listens
         left, said = run.stdout.read(), run.stderr.read()
         self.expect("its end", (run.wait(PATIENCE), left, said), (row.status, b"", row.said))
@@ -637,7 +644,8 @@ def main() -> int:
         read = rows(pathlib.Path(room, "roots"))
         made = [*made_rows()]
         for row in [*read, *made]:
-            checks.row(row)
+            check = checks.waits if row.writes else checks.row
+            check(row)
         short = row_of(SHORT.split("\n"))
         checks.row(short)
         for check in (checks.waits, checks.ends, checks.fails, checks.bounds):
