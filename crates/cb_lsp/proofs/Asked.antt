@@ -24,7 +24,7 @@ use Rattle.cb_lsp.specs.Messages.{Serving, asked_reply, result_unless}
 use Rattle.cb_lsp.specs.Questions.{Asked, folds, in_file, incoming, outgoing, rename}
 use Rattle.cb_lsp.specs.Questions.{workspace_symbols}
 use Rattle.cb_lsp.specs.Renames.{Answered, no_definition, renamable_at, renamed_at, renamed_word}
-use Rattle.cb_lsp.specs.Renames.{unread}
+use Rattle.cb_lsp.specs.Renames.{without_reading}
 use Rattle.cb_lsp.specs.Searches.{found_by}
 use Rattle.cb_lsp.specs.Symbols.{session_symbol}
 use Rattle.cb_lsp.specs.declared.question.FileQuestion.{FileQuestion}
@@ -202,7 +202,7 @@ puts-renamed-there finds o s inside here held ds c name t p new id before after 
     let named : told inside.client w d (text_of_file w.files name)
     ≡ renamed_at o inside.client inside.work p new (Some name) =
     ap (λ b. if b then told inside.client w d (text_of_file w.files name)
-    else unread (Err no_definition))
+    else without_reading (Err no_definition))
     (sym (ap (λ (x : World). has_file x.files name) (sym here-is) ∙ file.0)) in
     let same : told c held ds t.bytes ≡ renamed_at o s.client s.work p new (Some name) =
     ap (λ k. told k held ds t.bytes) (c-is ∙ ap (λ (x : Serving). x.client) (sym is))
@@ -225,9 +225,9 @@ puts-renamed-missing finds o s inside here name p new id before after r is found
     let text = text_of_file w.files name in
     let none = ap (λ (x : World). has_file x.files name) (sym (here-is
     ∙ ap (λ (x : Serving). x.work.world) is)) ∙ missing here.profile here.files name found in
-    let same : unread (Err no_definition) ≡ renamed_at o s.client s.work p new (Some name) =
+    let same : without_reading (Err no_definition) ≡ renamed_at o s.client s.work p new (Some name) =
     ap (λ b. if b then renamed_word o s.client s.work name text new
-    (renamable_at w text (place s.client.encoding text p)) else unread (Err no_definition))
+    (renamable_at w text (place s.client.encoding text p)) else without_reading (Err no_definition))
     (sym none) in
     subst (λ a. Replies finds (reply_with id a) before after r) same (put, tt)
 

@@ -30,7 +30,7 @@ use Rattle.cb_lsp.specs.Documents.{Oracle, Work}
 use Rattle.cb_lsp.specs.Meaning.{reaches}
 use Rattle.cb_lsp.specs.References.{uses_reached}
 use Rattle.cb_lsp.specs.Renames.{all_edits, bad_name, file_edits, files_of, is_some_use}
-use Rattle.cb_lsp.specs.Renames.{renamed_all, renamed_uses, renamed_word, unread, used_already}
+use Rattle.cb_lsp.specs.Renames.{renamed_all, renamed_uses, renamed_word, without_reading, used_already}
 use Rattle.cb_lsp.specs.Symbols.{place_of_use}
 use Rattle.cb_lsp.specs.steps.Located.{Locating}
 use Rattle.cb_lsp.specs.steps.References.{UsesAreByPlace}
@@ -167,12 +167,12 @@ edits-written id c files new us l order is =
 -- ---- why a name stays
 
 pub renamed-bad : (o : Oracle) (c : Client) (w : Work) (name text new : List ℕ) (word : Span)
-    → is_name new ≡ false → unread (Err bad_name) ≡ renamed_word o c w name text new (Some word)
+    → is_name new ≡ false → without_reading (Err bad_name) ≡ renamed_word o c w name text new (Some word)
 renamed-bad o c w name text new word bad = rw bad
 
 pub renamed-used : (o : Oracle) (c : Client) (w : Work) (name text new : List ℕ) (word : Span)
     → is_name new ≡ true → is_some_use (uses_of w.world.profile new w.world.files) ≡ true
-    → unread (Err used_already) ≡ renamed_word o c w name text new (Some word)
+    → without_reading (Err used_already) ≡ renamed_word o c w name text new (Some word)
 renamed-used o c w name text new word good used = rw (good, used)
 
 pub renamed-all : (o : Oracle) (c : Client) (w : Work) (name text new : List ℕ) (word : Span)

@@ -24,7 +24,7 @@ use Rattle.cb_lsp.specs.Renames.{check_open, check_read, checks, files_of, no_me
 use Rattle.cb_lsp.specs.Renames.{renamed_if, then_check, unless_found}
 use Rattle.cb_lsp.specs.declared.rename.Unedited.{Unedited}
 use Rattle.cb_lsp.specs.steps.References.{UsesAreByPlace}
-use Rattle.cb_lsp.specs.steps.Renames.{Tells, behind_if, check_if, checks_of_uses, is_last_of}
+use Rattle.cb_lsp.specs.steps.Renames.{ComesTo, behind_if, check_if, checks_of_uses, is_last_of}
 use Rattle.cb_lsp.specs.steps.Renames.{reason_of}
 use Rattle.cb_lsp.specs.steps.Works.{one_change}
 use Rattle.cb_lsp.proofs.EditGroups.{Groups, behind, by_file, cut, cut-by-file}
@@ -175,19 +175,19 @@ pub so-stays : (finds : Looked → Type 0) (c : Client) (w : Work) (start left r
     → Some why ≡ (check_if opens (one_change n f) c w u.file).why
     → AllByRecursion finds (check_if opens (one_change n f) c w u.file).read
     → option_map reason_of result ≡ Some why
-    → (o : Oracle) × Tells finds (checks o c w (files_of start)) result
+    → (o : Oracle) × ComesTo finds (checks o c w (files_of start)) result
 so-stays finds c w start left rest u opens n f result why so_far order is told found said =
     let k = check_if opens (one_change n f) c w u.file in
     let all = at-use finds c w start left rest u opens n f (Some why) quiet so_far is told in
     let same = sym all.1 ∙ checks-by-file all.0 c w start order in (
       all.0,
-      subst (λ x. Tells finds x result) same
+      subst (λ x. ComesTo finds x result) same
           (said, all-joined finds so_far.0 k.read so_far.1 found),
     )
 
 pub so-ends : (finds : Looked → Type 0) (c : Client) (w : Work) (start left : List Fact)
     (opens : Bool) → EditedSo finds c w start left opens → UsesAreByPlace start → left ≡ []
-    → (o : Oracle) × Tells finds (checks o c w (files_of start)) None
+    → (o : Oracle) × ComesTo finds (checks o c w (files_of start)) None
 unfolding checks_of_uses
 so-ends finds c w start left opens so_far order none =
     let all = so_far.2 quiet in
@@ -195,7 +195,7 @@ so-ends finds c w start left opens so_far order none =
     ∙ ap (λ us. behind_reads so_far.0 (checks_of_uses quiet c w opens us)) none)
     ∙ checks-by-file all.0 c w start order in (
       all.0,
-      subst (λ x. Tells finds x None) same (refl, all-joined finds so_far.0 [] so_far.1 tt),
+      subst (λ x. ComesTo finds x None) same (refl, all-joined finds so_far.0 [] so_far.1 tt),
     )
 
 -- ---- one file
@@ -203,17 +203,17 @@ so-ends finds c w start left opens so_far order none =
 pub check-open : (finds : Looked → Type 0) (o : Oracle) (c : Client) (w : Work) (file : List ℕ)
     (result : Option Unedited) → is_open w.documents file ≡ true
     → option_map reason_of result ≡ (check_open w.documents file).why
-    → Tells finds (check o c w file) result
+    → ComesTo finds (check o c w file) result
 check-open finds o c w file result is said =
-    subst (λ b. Tells finds (if b then check_open w.documents file
+    subst (λ b. ComesTo finds (if b then check_open w.documents file
     else check_read o w.world (path_below c.root.path file) file) result) (sym is) (said, tt)
 
 pub check-refused : (finds : Looked → Type 0) (f : Reading) (c : Client) (w : Work)
     (file : List ℕ) (result : Option Unedited) → is_open w.documents file ≡ false
     → option_map reason_of result ≡ Some no_memory
-    → Tells finds (check (one_change true f) c w file) result
+    → ComesTo finds (check (one_change true f) c w file) result
 check-refused finds f c w file result is said =
-    subst (λ b. Tells finds (if b then check_open w.documents file
+    subst (λ b. ComesTo finds (if b then check_open w.documents file
     else check_read (one_change true f) w.world (path_below c.root.path file) file) result)
     (sym is) (said, tt)
 
@@ -221,9 +221,9 @@ pub check-found : (finds : Looked → Type 0) (f : Reading) (c : Client) (w : Wo
     (file : List ℕ) (result : Option Unedited) → is_open w.documents file ≡ false
     → option_map reason_of result ≡ unless_found file (text_of_file w.world.files file) f
     → finds (looked_at w.world (path_below c.root.path file) f)
-    → Tells finds (check (one_change false f) c w file) result
+    → ComesTo finds (check (one_change false f) c w file) result
 check-found finds f c w file result is said found =
-    subst (λ b. Tells finds (if b then check_open w.documents file
+    subst (λ b. ComesTo finds (if b then check_open w.documents file
     else check_read (one_change false f) w.world (path_below c.root.path file) file) result)
     (sym is) (said, (found, tt))
 

@@ -38,8 +38,8 @@ use Rattle.cb_lsp.specs.declared.question.FileQuestion.TheVariants.{Highlights, 
 use Rattle.cb_lsp.specs.declared.question.FileQuestion.TheVariants.{Callables, PrepareRename}
 use Rattle.cb_lsp.specs.declared.question.FileQuestion.TheVariants.{Completions}
 use Rattle.cb_lsp.specs.References.{references}
-use Rattle.cb_lsp.specs.Renames.{Answered, Unrenamed, prepared, renamable_at, renamed_at, unread}
-use Rattle.cb_lsp.specs.Renames.{unrenamed_text}
+use Rattle.cb_lsp.specs.Renames.{Answered, Unrenamed, prepared, renamable_at, renamed_at}
+use Rattle.cb_lsp.specs.Renames.{unrenamed_text, without_reading}
 use Rattle.cb_lsp.specs.Searches.{found_by}
 use Rattle.cb_lsp.specs.Symbols.{file_place, file_symbol, place_of, place_of_use}
 use Rattle.cb_lsp.specs.Symbols.{session_symbol}
@@ -162,15 +162,16 @@ name_of_uri c uri = option_map (name_below c.root.path) (path_of uri)
 -- the answer to a question; a name that is asked to be changed may have to stay
 abbrev pub answer_to : Oracle → Client → Work → Asked → Answered
 answer_to o c w (in_file uri question) =
-    unread (Ok (answer_named c w.world question (name_of_uri c uri)))
+    without_reading (Ok (answer_named c w.world question (name_of_uri c uri)))
 answer_to o c w (workspace_symbols query) =
-    unread (Ok (array (items_of (map (session_symbol c w.world.files) (found_by w.world query)))))
+    without_reading (Ok (array (items_of (map (session_symbol c w.world.files)
+    (found_by w.world query)))))
 answer_to o c w (rename uri position new) = renamed_at o c w position new (name_of_uri c uri)
 answer_to o c w (incoming name uri) =
-    unread (Ok (incoming_named c w.world name (name_of_uri c uri)))
+    without_reading (Ok (incoming_named c w.world name (name_of_uri c uri)))
 answer_to o c w (outgoing name uri p) =
-    unread (Ok (outgoing_named c w.world name p (name_of_uri c uri)))
-answer_to o c w (folds uri) = unread (Ok (folds_named w.world (name_of_uri c uri)))
+    without_reading (Ok (outgoing_named c w.world name p (name_of_uri c uri)))
+answer_to o c w (folds uri) = without_reading (Ok (folds_named w.world (name_of_uri c uri)))
 
 -- the reply with an answer
 abbrev pub answer_reply : (id : Json) → Result Json Unrenamed → Json

@@ -54,8 +54,8 @@ IsEnd f s left ending.Read = left.stage ≡ Failed
 
 -- ---- one turn
 
--- a message is taken, what was read again is what is found there, and its reply is handed on; or the
--- run ends, with nothing done; or the writer fails
+-- a message is taken, what was read again is what is found there, and its reply is handed on; or
+-- the run ends, with nothing done; or the writer fails
 abbrev pub LeavesTurn : (finds : Looked → Type 0) → First → (s next : Serving) → Reader → Writer
     → Writer → Result (Option Ending) WriteFault → Type 0
 LeavesTurn finds f s next left old new (Ok None) =

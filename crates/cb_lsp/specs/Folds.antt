@@ -15,6 +15,7 @@ first_line text r = line_of text r.name.start - 1
 abbrev pub last_line : List ℕ → Range → ℕ
 last_line text r = line_of text (r.end - 1) - 1
 
+-- the function has more than one line
 abbrev pub has_lines : List ℕ → Range → Bool
 has_lines text r = nat_lt (first_line text r) (last_line text r)
 

@@ -26,9 +26,9 @@ use Rattle.cb_lsp.specs.declared.server.Stage.{Stage}
 use Rattle.cb_lsp.specs.declared.server.Stage.TheVariants.{Fresh, Running, Down}
 use Rattle.cb_lsp.specs.Answers.{Replied, answer_to, reply_with}
 use Rattle.cb_lsp.specs.Clients.{Client}
-use Rattle.cb_lsp.specs.Documents.{Looked, Oracle, Reading, Told, Work, behind_event, changed, closed}
-use Rattle.cb_lsp.specs.Documents.{first_found, first_refusal, is_open, is_renewed, later, looked_at}
-use Rattle.cb_lsp.specs.Documents.{opened, removed, renewed, saved}
+use Rattle.cb_lsp.specs.Documents.{Looked, Oracle, Reading, Told, Work, behind_event, changed}
+use Rattle.cb_lsp.specs.Documents.{closed, first_found, first_refusal, is_open, is_renewed, later}
+use Rattle.cb_lsp.specs.Documents.{looked_at, opened, removed, renewed, saved}
 use Rattle.cb_lsp.specs.Params.{changes_in, document_text, event_of, items_in, member_of}
 use Rattle.cb_lsp.specs.Params.{prepares_renames, root_in, takes_trees, takes_utf8, takes_watchers}
 use Rattle.cb_lsp.specs.Params.{text_in, uri_in}

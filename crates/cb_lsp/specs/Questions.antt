@@ -14,10 +14,10 @@ use Rattle.cb_lsp.specs.declared.question.FileQuestion.TheVariants.{Completions}
 use Rattle.cb_lsp.specs.declared.question.Unasked.{Unasked}
 use Rattle.cb_lsp.specs.declared.question.Unasked.TheVariants.{UnknownMethod, BadParameters}
 
--- what is asked: about the file of a URI; for the symbols of the session that a query names; how the
--- word at a position of the file of a URI is given a new name; who calls a name that stands in the
--- file of a URI; what is called by what has a name at a position there; or what is folded of the file
--- of a URI
+-- what is asked: about the file of a URI; for the symbols of the session that a query names; how
+-- the word at a position of the file of a URI is given a new name; who calls a name that stands in
+-- the file of a URI; what is called by what has a name at a position there; or what is folded of the
+-- file of a URI
 pub data Asked : Type 0 where
   in_file : (uri : List ℕ) → FileQuestion → Asked
   workspace_symbols : (query : List ℕ) → Asked

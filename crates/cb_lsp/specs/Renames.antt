@@ -171,6 +171,7 @@ checks o c w (file ∷ files) =
 
 -- ---- all of it
 
+-- an answer, unless there is a reason against it
 abbrev pub ok_unless : Json → Option Unrenamed → Result Json Unrenamed
 ok_unless j None = Ok j
 ok_unless j (Some why) = Err why
@@ -180,10 +181,11 @@ pub record Answered : Type 0 where
   pub answer : Result Json Unrenamed
   pub read : List Looked
 
-abbrev pub unread : Result Json Unrenamed → Answered
-unread answer = record { answer = answer; read = [] }
+-- an answer for which nothing was read
+abbrev pub without_reading : Result Json Unrenamed → Answered
+without_reading answer = record { answer = answer; read = [] }
 
--- where each file is edited
+-- the edits, where each file is edited, or why one is not; and what was read
 abbrev pub renamed_if : Client → List File → (new : List ℕ) → List Fact → Check → Answered
 renamed_if c files new us k = record {
   answer = ok_unless (all_edits c files new us) k.why;
@@ -199,18 +201,19 @@ is_some_use (u ∷ us) = true
 
 -- a word of the file of this name and text is renamed
 abbrev pub renamed_word : Oracle → Client → Work → (name text new : List ℕ) → Option Span → Answered
-renamed_word o c w name text new None = unread (Err no_definition)
+renamed_word o c w name text new None = without_reading (Err no_definition)
 renamed_word o c w name text new (Some word) =
-    if not (is_name new) then unread (Err bad_name)
-    else (if is_some_use (uses_of w.world.profile new w.world.files) then unread (Err used_already)
+    if not (is_name new) then without_reading (Err bad_name)
+    else (if is_some_use (uses_of w.world.profile new w.world.files)
+    then without_reading (Err used_already)
     else renamed_all o c w new (renamed_uses w.world name text word))
 
 -- the word at a position of a file of this name is renamed, if there is such a file
 abbrev pub renamed_at : Oracle → Client → Work → Position → (new : List ℕ) → Option (List ℕ)
     → Answered
-renamed_at o c w p new None = unread (Err no_definition)
+renamed_at o c w p new None = without_reading (Err no_definition)
 renamed_at o c w p new (Some name) =
     let text = text_of_file w.world.files name in
     if has_file w.world.files name
     then renamed_word o c w name text new (renamable_at w.world text (place c.encoding text p))
-    else unread (Err no_definition)
+    else without_reading (Err no_definition)

@@ -69,8 +69,8 @@ impl Server {
         out: &mut Sink<W>,
         value: &Value<'_>,
     ) -> Result<bool, WriteFault>
-        ensures { TakesBody (D.finds disk.now) (IsValue (Some (value_view value.now))) self.old self.new
-            out.old out.new result }
+        ensures { TakesBody (D.finds disk.now) (IsValue (Some (value_view value.now)))
+            self.old self.new out.old out.new result }
     {
         let message = message_of(value);
         let last = is_exit(&message);

@@ -21,7 +21,7 @@ pub enum Found {
 
 /// The file system, as a server reads it.
 pub trait Disk {
-    /// What is found at a path, of which so many bytes are read at most.
+    /// A path of which at most so many bytes are read has this finding.
     ghost finds: { Self → Looked → Type 0 };
 
     /// The first bytes of the file of a path, at most so many.

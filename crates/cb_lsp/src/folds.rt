@@ -1,6 +1,5 @@
 //! The functions of a file, which an editor folds.
-ghost use Rattle.std.specs.Prelude.{◌≡◌, ◌∷◌, [], Bool, MatchOption, Some, map};
-ghost use Rattle.cb_desk.specs.World.{World};
+ghost use Rattle.std.specs.Prelude.{◌≡◌, ◌∷◌, [], Bool, MatchOption, Some};
 ghost use Rattle.cb_tags.specs.Writing.{Puts};
 ghost use Rattle.cb_wire.specs.Folds.{fold_tree};
 ghost use Rattle.cb_wire.specs.Messages.{id_json};
@@ -75,7 +74,7 @@ impl<'a> Elements for Folds<'a> {
     }
 }
 
-/// Writes what is folded of a file. It is scanned for that.
+/// Writes what is folded of a file. The file is scanned for that.
 pub(crate) fn put_folds<W: Write>(
     alloc: Global,
     desk: &Desk,

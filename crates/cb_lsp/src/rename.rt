@@ -31,12 +31,12 @@ ghost use Rattle.cb_lsp.specs.Renames.{
 ghost use Rattle.cb_lsp.specs.steps.Located.{client_in};
 ghost use Rattle.cb_lsp.specs.steps.References.{UsesAreByPlace, reached_left};
 ghost use Rattle.cb_lsp.specs.steps.Renames.{
+  check_if,
   edits_left,
   is_last_of,
   reason_of,
-  Tells,
-  check_if,
   work_in,
+  ComesTo,
 };
 ghost use Rattle.cb_lsp.specs.steps.Works.{one_change};
 
@@ -221,7 +221,7 @@ impl<'a> Renaming<'a> {
 
     /// Why a file is not edited. One that is not open is read again.
     fn unedited<D: Disk>(&self, alloc: Global, disk: &D, file: &'a [u8]) -> Option<Unedited<'a>>
-        ensures { (no_path : Bool) × (found : Reading) × Tells (D.finds disk.now)
+        ensures { (no_path : Bool) × (found : Reading) × ComesTo (D.finds disk.now)
             (check (one_change no_path found) (client_in self.now.asked.forms) (work_in self.now)
             file.entry.now) result }
     {
@@ -245,7 +245,7 @@ impl<'a> Renaming<'a> {
         opens: bool,
         file: &'a [u8],
     ) -> Option<Unedited<'a>>
-        ensures { (no_path : Bool) × (found : Reading) × Tells (D.finds disk.now)
+        ensures { (no_path : Bool) × (found : Reading) × ComesTo (D.finds disk.now)
             (check_if opens (one_change no_path found) (client_in self.now.asked.forms)
             (work_in self.now) file.entry.now) result }
     {
@@ -264,7 +264,7 @@ impl<'a> Renaming<'a> {
         uses: Reached<'a, '_>,
     ) -> Option<Unedited<'a>>
         requires { UsesAreByPlace (reached_left uses) }
-        ensures { (o : Oracle) × Tells (D.finds disk.now) (checks o
+        ensures { (o : Oracle) × ComesTo (D.finds disk.now) (checks o
             (client_in self.now.asked.forms) (work_in self.now)
             (files_of (reached_left uses.entry))) result }
     {

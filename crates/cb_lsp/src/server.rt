@@ -102,6 +102,7 @@ fn encoding_for(params: Option<&Value<'_>>) -> Encoding
 
 impl Server {
     ghost use Rattle.std.specs.Prelude.{◌<◌, ◌^◌, ◌≤◌, Bool, MatchResult, Ok, Some, codes};
+    ghost use Rattle.std.specs.List.{AllByRecursion};
     ghost use Rattle.json.specs.Value.{value_view};
     ghost use Rattle.cb_tags.specs.Writing.{Puts};
     ghost use Rattle.cb_wire.specs.Messages.{id_json};
@@ -127,7 +128,6 @@ impl Server {
       with_root,
     };
     ghost use Rattle.cb_lsp.specs.Models.{asked_of, found_in};
-    ghost use Rattle.std.specs.List.{AllByRecursion};
     ghost use Rattle.cb_lsp.specs.Params.{items_in, member_of, uri_in};
     ghost use Rattle.cb_lsp.specs.Questions.{folds, in_file, incoming, outgoing, rename};
     ghost use Rattle.cb_lsp.specs.Renames.{renamed_at};
@@ -267,7 +267,10 @@ impl Server {
     fn settle(&mut self, question: Question<'_>)
         ensures { self.new ≡ self.old }
     {
-        self.work.settle(Field::Definition);
+        match question {
+            Question::Folds(_) => return,
+            _ => self.work.settle(Field::Definition),
+        }
         match question {
             Question::InFile(_, FileQuestion::References(_, _)) | Question::Rename(_, _, _) => {
                 self.work.settle(Field::Symbol)
@@ -474,7 +477,8 @@ impl Server {
         uri: &str,
     ) -> Result<(), WriteFault>
         ensures { (no_memory : Bool) × Puts out.old out.new result (frame (value_text
-            (asked_reply (only no_memory) self.now (id_json id.entry) (Ok (folds uri.now))).message)) }
+            (asked_reply (only no_memory) self.now (id_json id.entry)
+            (Ok (folds uri.now))).message)) }
     {
         match path_of_uri(alloc, uri.as_bytes()) {
             Ok(Some(path)) => {
@@ -674,8 +678,9 @@ impl Server {
         out: &mut Sink<W>,
         path: &[u8],
     ) -> Result<(), WriteFault>
-        ensures { (no_text : Bool) × (found : Reading) × DoesBy (D.finds disk.now) (happened_at FileEvent.Written
-            (one_change no_text found) self.old (Some path.now)) self.new out.old out.new result }
+        ensures { (no_text : Bool) × (found : Reading) × DoesBy (D.finds disk.now)
+            (happened_at FileEvent.Written (one_change no_text found) self.old (Some path.now))
+            self.new out.old out.new result }
     {
         let name = self.root.name(path);
         if !self.work.renews(name, may_enter(path, name)) {

@@ -86,7 +86,8 @@ impl Server {
         out: &mut Sink<W>,
     ) -> Result<Option<Ending>, WriteFault>
         ensures { WhateverFollows feed.old feed.new (λ bytes left.
-            LeavesTurn (D.finds disk.now) (first bytes) self.old self.new left out.old out.new result) }
+            LeavesTurn (D.finds disk.now) (first bytes) self.old self.new left
+            out.old out.new result) }
     {
         match frames.read(feed) {
             Ok(Frame::Body(body)) => {

@@ -89,9 +89,9 @@ fn ranges_in(alloc: Global, rules: Rules, text: &[u8]) -> Result<Vec<Range>, All
     }
 }
 
-/// The functions that rules find in the text, those to which [`scan`] counts uses and calls: for
-/// each its name, and where its body ends, after the `}` or at the end of the text. Refused memory is
-/// the only error. One pass, and time in proportion to the text.
+/// The functions that rules find in the text, which [`scan`] tells as scopes and callers beside
+/// macros: for each its name, and where its body ends, after the `}` or at the end of the text.
+/// Refused memory is the only error. One pass, and time in proportion to the text.
 pub fn function_ranges(
     alloc: Global,
     rules: Rules,

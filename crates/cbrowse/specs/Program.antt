@@ -83,8 +83,8 @@ server_of root w = fresh_server w (of_folder (unwrap_or root [])) (is_some root)
 
 -- the server has run over the input and output, whatever follows the bytes that were read; what it
 -- read again is what is found there
-abbrev pub RunsServer : (finds : Looked → Type 0) → Option (List ℕ) → World → Reader → Reader → Writer
-    → Writer → Result Ending RunFault → Type 0
+abbrev pub RunsServer : (finds : Looked → Type 0) → Option (List ℕ) → World → Reader → Reader
+    → Writer → Writer → Result Ending RunFault → Type 0
 RunsServer finds root w feed feed' old new end =
     (next : Serving) × WhateverFollows feed feed' (λ bytes left.
     LeavesRun finds bytes (server_of root w) next left old new end)
@@ -103,11 +103,12 @@ IsReady _ = Unit {0}
 
 -- a job is done from a timeline: a session or an editor is served; the rows of a search and tags
 -- are written, and the reader is left alone
-abbrev pub DoesJob : (finds : Looked → Type 0) → Job → (lines limit : ℕ) → State → Reader → Reader → Writer → Writer
-    → Finish → Type 0
+abbrev pub DoesJob : (finds : Looked → Type 0) → Job → (lines limit : ℕ) → State → Reader → Reader
+    → Writer → Writer → Finish → Type 0
 DoesJob finds (Line bounds rules list files) lines limit s feed feed' old new (Ran ended) =
     (next : State) × Serves lines limit s next feed feed' old new ended
-DoesJob finds (Find bounds rules field pattern list files) lines limit s feed feed' old new (Ran ended) =
+DoesJob finds (Find bounds rules field pattern list files) lines limit s feed feed' old new
+    (Ran ended) =
     (feed' ≡ feed)
     × WritesText (flat_map row_line (answer s.timeline.present field (string_bytes pattern)))
     old new ended

@@ -319,7 +319,7 @@ fn do_job<R: Files + AllocGlobal, I: BufRead, O: Write>(
 }
 
 /// Does a job: every file is read, then all are loaded, where no fact is sought that the job does
-/// not read, and only then something is done with them.
+/// not read, and only then is something done with them.
 fn work<R: Files + AllocGlobal, I: BufRead, O: Write>(
     rt: &R,
     folder: &str,

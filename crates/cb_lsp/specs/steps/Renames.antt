@@ -51,12 +51,12 @@ abbrev pub reason_of : Unedited → Unrenamed
 reason_of (NotOpen file) = not_open file.now
 reason_of NoMemory = no_memory
 
--- a check tells what a file comes to, and what was read for it is what is found there
-abbrev pub Tells : (finds : Looked → Type 0) → Check → Option Unedited → Type 0
-Tells finds k result = (option_map reason_of result ≡ k.why) × AllByRecursion finds k.read
+-- a check comes to this result, and what was read for it is what is found there
+abbrev pub ComesTo : (finds : Looked → Type 0) → Check → Option Unedited → Type 0
+ComesTo finds k result = (option_map reason_of result ≡ k.why) × AllByRecursion finds k.read
 
--- the file of a use is looked at, and what is decided behind it: only the first use of a file, which
--- opens it, counts
+-- the file of a use is looked at, and what is decided behind it: only the first use of a file,
+-- which opens it, counts
 abbrev pub check_if : (opens : Bool) → Oracle → Client → Work → (file : List ℕ) → Check
 check_if opens o c w file =
     if opens then check o c w file else record { why = None; read = [] }
