@@ -28,7 +28,8 @@ ask       `definition`, `hover` and `documentHighlight` at a thousand names in t
           holds. The last two look at all names, unless 1,000 of them hold the text.
 change    `didChange` of a document of 50 kB and of one of 1 MB, each time another text: until a
           `documentSymbol` of a tiny document behind it is answered; and the same where one letter
-          is sent, which changes at its place; and `foldingRange` of that document. Beside them the
+          is sent, which changes at its place, also with a `definition` in the tiny document behind
+          it, which puts definitions in order; and `foldingRange` of that document. Beside them the
           message with a whole text for a document that is not open, which is read and passed over.
           Then the most that is resident, beside what it was before.
 memory    What is resident after 20 and after 2,000 changes of a document of 50 kB.
@@ -472,10 +473,9 @@ def changes(server, folder, names, size, count):
     return [server.change(BIG, texts[number % 2]) + question for number in range(count)]
 
 
-def letters(server, text, count):
+def letters(server, text, count, question):
     """The same of one letter each time, in the name that a text has of its own."""
     place = text.count("\n") - 2, len(";int changed_")
-    question = server.symbols(TINY)
     return [server.change(BIG, str(n % 2), place=place) + question for n in range(count)]
 
 
@@ -486,6 +486,7 @@ def change(cbrowse, names, folder):
     server.open(TINY, TINY_TEXT)
     nothing = put_nothing(server)
     put_all("documentSymbol, tiny", server, [server.symbols(TINY)] * ASKED, nothing)
+    (defined_there,) = at_places(server, "textDocument/definition", [(TINY, 0, 4)])
     before = server.resident()
     for label, size in SIZES.items():
         messages = changes(server, folder, names, size, CHANGES)
@@ -493,9 +494,10 @@ def change(cbrowse, names, folder):
         server.open(BIG, text_of(folder, names, size))
         put_all(f"didChange, {label}", server, messages, nothing)
         check_taken(server, (CHANGES - 1) % 2)
-        few = letters(server, text_of(folder, names, size), CHANGES)
-        put_all(f"didChange, a letter of {label}", server, few, nothing)
-        check_taken(server, (CHANGES - 1) % 2)
+        for question, more in (server.symbols(TINY), ""), (defined_there, ", definition"):
+            few = letters(server, text_of(folder, names, size), CHANGES, question)
+            put_all(f"a letter of {label}{more}", server, few, nothing)
+            check_taken(server, (CHANGES - 1) % 2)
         folds = frame("textDocument/foldingRange", server.document(BIG), 1)
         put_all(f"foldingRange, {label}", server, [folds] * CHANGES, nothing)
         put_resident(f"memory after {label}", server, before)

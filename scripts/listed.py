@@ -36,6 +36,7 @@ NEEDS: dict[str, Callable[[], bool]] = {
     "elpa-xcscope": lambda: says(["emacs", "--batch", "--eval", XCSCOPE], "loaded"),
     "elpa-eglot": lambda: says(["emacs", "--batch", "--eval", EGLOT], "loaded"),
     "less": lambda: shutil.which("less") is not None,
+    "valgrind": lambda: shutil.which("valgrind") is not None,
     "neovim": lambda: shutil.which("nvim") is not None,
     "parallel": lambda: says(["parallel", "--version"], "GNU parallel"),
     "openssh-server": lambda: os.path.exists("/usr/sbin/sshd"),

@@ -57,6 +57,21 @@ abbrev pub or_bad : Option Asked → Result Asked Unasked
 or_bad None = Err BadParameters
 or_bad (Some asked) = Ok asked
 
+-- what a call asks of the files together, or of the lines of one
+abbrev pub asked_of_files_by : List ℕ → Option Json → Result Asked Unasked
+asked_of_files_by method params =
+    if bytes_eq method (codes "workspace/symbol")
+    then or_bad (option_map workspace_symbols (query_in params))
+    else (if bytes_eq method (codes "textDocument/rename")
+    then or_bad (rename_with (uri_in params) (position_in params) (new_name_in params))
+    else (if bytes_eq method (codes "callHierarchy/incomingCalls")
+    then or_bad (calls_to (item_name params) (item_uri params))
+    else (if bytes_eq method (codes "callHierarchy/outgoingCalls")
+    then or_bad (calls_by (item_name params) (item_uri params) (item_start params))
+    else (if bytes_eq method (codes "textDocument/foldingRange")
+    then or_bad (option_map folds (uri_in params))
+    else Err UnknownMethod))))
+
 -- what a call asks
 abbrev pub asked_by : List ℕ → Option Json → Result Asked Unasked
 asked_by method params =
@@ -72,18 +87,8 @@ asked_by method params =
     then or_bad (uses_at (uri_in params) (position_in params) (declarations_in params))
     else (if bytes_eq method (codes "textDocument/prepareRename")
     then or_bad (at_place PrepareRename (uri_in params) (position_in params))
-    else (if bytes_eq method (codes "textDocument/rename")
-    then or_bad (rename_with (uri_in params) (position_in params) (new_name_in params))
-    else (if bytes_eq method (codes "workspace/symbol")
-    then or_bad (option_map workspace_symbols (query_in params))
     else (if bytes_eq method (codes "textDocument/prepareCallHierarchy")
     then or_bad (at_place Callables (uri_in params) (position_in params))
-    else (if bytes_eq method (codes "callHierarchy/incomingCalls")
-    then or_bad (calls_to (item_name params) (item_uri params))
     else (if bytes_eq method (codes "textDocument/completion")
     then or_bad (at_place Completions (uri_in params) (position_in params))
-    else (if bytes_eq method (codes "callHierarchy/outgoingCalls")
-    then or_bad (calls_by (item_name params) (item_uri params) (item_start params))
-    else (if bytes_eq method (codes "textDocument/foldingRange")
-    then or_bad (option_map folds (uri_in params))
-    else Err UnknownMethod))))))))))))
+    else asked_of_files_by method params)))))))

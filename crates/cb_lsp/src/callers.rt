@@ -128,7 +128,7 @@ fn calls_reached<'a>(
     let mut rows = Vec::new(alloc);
     let mut rest = Reached::new(desk.calls_of(name), desk.definitions(name), from);
     'calls: while let Some(spot) = rest.next() {
-        let range = places.range(spot.file, spot.name, spot.place);
+        let range = places.range(spot.file, spot.name, spot.place, spot.line);
         rows.push(CallRow { spot, range })?;
     }
     Ok(rows)

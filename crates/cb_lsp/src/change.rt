@@ -2,6 +2,7 @@
 ghost use Rattle.std.specs.Prelude.{◌≡◌, ◌≤◌, IfErr, IfOk, is_some, length, true};
 ghost use Rattle.std.specs.Option.{option_map};
 ghost use Rattle.json.specs.Value.{items_view, value_view};
+ghost use Rattle.cb_wire.specs.Positions.{place};
 ghost use Rattle.cb_lsp.specs.Changes.{or_else, replaced, splice, text_by, text_with};
 ghost use Rattle.cb_lsp.specs.Models.{change_seen};
 ghost use Rattle.cb_lsp.specs.Params.{change_of, changes_among};
@@ -9,7 +10,7 @@ ghost use Rattle.cb_lsp.specs.steps.Changed.{text_when};
 
 use crate::documents::copy_of;
 use crate::params::change_of;
-use cb_wire::{Encoding, Range, place_of_position};
+use cb_wire::{Encoding, Range, line_at, place_of_column, place_of_position};
 use json::Value;
 use std::alloc::{AllocError, Global};
 
@@ -41,6 +42,23 @@ fn replaced(
     Ok(made)
 }
 
+/// The places that the ends of a range name. It takes time linear in the text, and goes through it
+/// once where both are on one line.
+fn places_of(encoding: Encoding, text: &[u8], range: Range) -> (usize, usize)
+    ensures start { result.0 ≡ place encoding text.now range.start }
+    ensures end { result.1 ≡ place encoding text.now range.end }
+    ensures within { (result.0 ≤ length text.now) × (result.1 ≤ length text.now) }
+{
+    let (first, line) = line_at(text, range.start.line);
+    let start = first + place_of_column(encoding, line, range.start.character);
+    let end = if range.end.line == range.start.line {
+        first + place_of_column(encoding, line, range.end.character)
+    } else {
+        place_of_position(encoding, text, range.end)
+    };
+    (start, end)
+}
+
 /// A text with another one in place of a range; an end before the start counts as the start. It
 /// takes time linear in both texts.
 fn splice(
@@ -52,8 +70,7 @@ fn splice(
 ) -> Result<Vec<u8>, AllocError>
     ensures { IfOk result (λ made. made.items ≡ splice encoding text.now range new.now) }
 {
-    let start = place_of_position(encoding, text, range.start);
-    let end = place_of_position(encoding, text, range.end);
+    let (start, end) = places_of(encoding, text, range);
     replaced(alloc, text, start, start.max(end), new)
 }
 

@@ -130,8 +130,8 @@ impl<'a> Positions<'a> {
         }
     }
 
-    /// Goes to a line.
-    fn go_to(&mut self, line: u32)
+    /// Goes to a line: that of the place that is asked for next, as far as it is known.
+    pub(crate) fn go_to(&mut self, line: u32)
         ensures encoding { self.new.encoding ≡ self.old.encoding }
         ensures text { self.new.text ≡ self.old.text }
         ensures line { self.new.line ≡ line }

@@ -133,8 +133,9 @@ impl<'a> Located<'a> {
         Some(Positions::new(self.forms.encoding, source))
     }
 
-    /// The range of a name that begins at a place of a file.
-    pub(crate) fn range(&mut self, file: &'a [u8], name: &[u8], place: u32) -> Range
+    /// The range of a name that begins at a place of a file, which is on this line as far as it is
+    /// known.
+    pub(crate) fn range(&mut self, file: &'a [u8], name: &[u8], place: u32, line: u32) -> Range
         ensures range { result ≡ range_of self.old.client.encoding
             (text_of_file self.old.files file.now) place (place + length name.now) }
         ensures same { self.new ≡ self.old }
@@ -144,6 +145,7 @@ impl<'a> Located<'a> {
         match self.positions_in(file) {
             Some(found) => {
                 let mut positions = found;
+                positions.go_to(line);
                 let range = positions.range(start, end);
                 self.last = Some(FilePositions { file, positions });
                 range
@@ -152,13 +154,14 @@ impl<'a> Located<'a> {
         }
     }
 
-    /// Where a name is that begins at a place of a file.
-    fn name_place(&mut self, file: &'a [u8], name: &[u8], place: u32) -> Location<'a>
+    /// Where a name is that begins at a place of a file, which is on this line as far as it is
+    /// known.
+    fn name_place(&mut self, file: &'a [u8], name: &[u8], place: u32, line: u32) -> Location<'a>
         ensures place { location_tree result
             ≡ name_place self.old.client self.old.files file.entry.now name.now place }
         ensures same { self.new ≡ self.old }
     {
-        let range = self.range(file, name, place);
+        let range = self.range(file, name, place, line);
         Location {
             root: self.forms.root,
             name: file,
@@ -172,7 +175,7 @@ impl<'a> Located<'a> {
             ≡ place_of self.old.client self.old.files (tag_of row.now) }
         ensures same { self.new ≡ self.old }
     {
-        self.name_place(row.file, row.name, row.place)
+        self.name_place(row.file, row.name, row.place, row.line)
     }
 
     /// Where the name of a use is.
@@ -181,7 +184,7 @@ impl<'a> Located<'a> {
             ≡ place_of_use self.old.client self.old.files (fact_of_spot spot.now) }
         ensures same { self.new ≡ self.old }
     {
-        self.name_place(spot.file, spot.name, spot.place)
+        self.name_place(spot.file, spot.name, spot.place, spot.line)
     }
 
     /// The range of the line of a name that begins at a place of a file, and that of the name.

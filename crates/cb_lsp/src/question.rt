@@ -4,6 +4,7 @@ ghost use Rattle.std.specs.Option.{option_map};
 ghost use Rattle.cb_lsp.specs.Models.{asked_in, asked_of};
 ghost use Rattle.cb_lsp.specs.Questions.{
   asked_by,
+  asked_of_files_by,
   at_place,
   calls_by,
   calls_to,
@@ -201,6 +202,26 @@ fn folds<'v, 'a>(call: Call<'v, 'a>) -> Option<Question<'a>>
     Some(Question::Folds(uri_of(call.params)?))
 }
 
+/// The question that a call asks about the files together, or about the lines of one.
+fn question_of_files<'v, 'a>(call: Call<'v, 'a>) -> Result<Question<'a>, Unasked>
+    ensures { asked_in result
+        ≡ asked_of_files_by call.entry.method.now (seen call.entry.params) }
+{
+    if call.method == "workspace/symbol" {
+        or_bad(workspace_symbols(call))
+    } else if call.method == "textDocument/rename" {
+        or_bad(rename(call))
+    } else if call.method == "callHierarchy/incomingCalls" {
+        or_bad(incoming(call))
+    } else if call.method == "callHierarchy/outgoingCalls" {
+        or_bad(outgoing(call))
+    } else if call.method == "textDocument/foldingRange" {
+        or_bad(folds(call))
+    } else {
+        Err(Unasked::UnknownMethod)
+    }
+}
+
 /// What a call asks.
 pub(crate) fn question_of<'v, 'a>(call: Call<'v, 'a>) -> Result<Question<'a>, Unasked>
     ensures { asked_in result ≡ asked_by call.entry.method.now (seen call.entry.params) }
@@ -217,21 +238,11 @@ pub(crate) fn question_of<'v, 'a>(call: Call<'v, 'a>) -> Result<Question<'a>, Un
         or_bad(references(call))
     } else if call.method == "textDocument/prepareRename" {
         or_bad(prepare_rename(call))
-    } else if call.method == "textDocument/rename" {
-        or_bad(rename(call))
-    } else if call.method == "workspace/symbol" {
-        or_bad(workspace_symbols(call))
     } else if call.method == "textDocument/prepareCallHierarchy" {
         or_bad(callables(call))
-    } else if call.method == "callHierarchy/incomingCalls" {
-        or_bad(incoming(call))
     } else if call.method == "textDocument/completion" {
         or_bad(completions(call))
-    } else if call.method == "callHierarchy/outgoingCalls" {
-        or_bad(outgoing(call))
-    } else if call.method == "textDocument/foldingRange" {
-        or_bad(folds(call))
     } else {
-        Err(Unasked::UnknownMethod)
+        question_of_files(call)
     }
 }

@@ -263,12 +263,14 @@ impl Server {
         }
     }
 
-    /// Puts in order what a question reads. It changes no answer.
+    /// Puts in order what a question reads: nothing, where the file itself has the answer, so that
+    /// what changes while one types is put in order once. It changes no answer.
     fn settle(&mut self, question: Question<'_>)
         ensures { self.new ≡ self.old }
     {
         match question {
             Question::Folds(_) => return,
+            Question::InFile(_, FileQuestion::Symbols | FileQuestion::Highlights(_)) => return,
             _ => self.work.settle(Field::Definition),
         }
         match question {

@@ -76,16 +76,15 @@ pub fn path_of_uri(alloc: Global, uri: &[u8]) -> Result<Option<CowSlice<'_, u8>>
     }
 }
 
-/// Whether a byte stands for itself in a URI.
+/// Whether a byte stands for itself in a URI. A dot, a slash and the digits follow the minus.
 fn is_kept(byte: u8) -> bool
     ensures { result ≡ is_kept byte }
 {
-    byte.is_ascii_alphanumeric()
-        || byte == b'-'
-        || byte == b'.'
+    byte.is_ascii_lowercase()
+        || (b'-' <= byte && byte <= b'9')
+        || byte.is_ascii_uppercase()
         || byte == b'_'
         || byte == b'~'
-        || byte == b'/'
 }
 
 /// Writes a path with escapes, as in a URI; at once, where it has none.
