@@ -1,20 +1,21 @@
 #!/usr/bin/env python3
-"""What bounds the times: instructions, misses of the caches, wrong guesses of branches, pages.
+"""What bounds the times: instructions, misses of the cache, wrong guesses of branches, pages.
 
     bench/corpus.sh FOLDER && make && bench/bounds.py FOLDER/files
     bench/bounds.py --cbrowse PATH --part rows --part scan FOLDER
 
-It takes the C sources of the folder, at most 4,096 of them, and does each piece of work twice: by
-the clock, the least of three, and under `valgrind --tool=cachegrind`, which counts. What the work
-is measured above, a shorter run of the same kind, is taken away from both.
+It takes the C sources of the folder, at most 4,096 of them. Each piece of work is done with all of
+them, by the clock of the processor, the least of three, and once more with large pages, which glibc
+asks for where its tunable `malloc.hugetlb` says so. It is also done with every eighth file under
+`valgrind --tool=cachegrind`, which counts. Where the work is only a part of a run, a shorter run of
+the same kind is taken away from it.
 
 A row is for one unit of the work: a byte that is scanned, a row that is written, and so on. It
-tells the nanoseconds by the clock of the processor, the instructions, the reads and writes that
-miss the first cache, those that miss the last one and so wait for memory, the branches that the
-processor is taken to guess wrong, and the pages of memory that Linux makes. Caches and guesses are
-those of cachegrind: two caches with the sizes of the machine's first and last one, no fetching
-ahead, and a small table of branches. So misses are counted that a real processor hides, and where
-one wait hides another it counts both.
+tells the nanoseconds, those with large pages, and the pages of memory that Linux makes; then the
+instructions, the reads and writes that miss the first cache, and the branches that cachegrind takes
+the processor to guess wrong. Its cache fetches nothing ahead, and its table of branches is small,
+so a real processor misses and errs less. What large pages gain is what the processor waits for
+addresses of memory to be looked up.
 
 It takes ten minutes. Counts do not depend on what else runs on the machine; times do.
 """
@@ -22,138 +23,161 @@ It takes ten minutes. Counts do not depend on what else runs on the machine; tim
 from __future__ import annotations
 
 import collections
+import os
 import pathlib
 import re
 import resource
 import subprocess
 import tempfile
+from typing import NamedTuple
 
 from measure import MOST_FILES, c_files, installed, keep_to_one_core, options, words_given
 
 PARTS = "scan", "start", "tags", "first", "rows", "find"
 RUNS = 3
+EVERY = 8  # of the files that are counted
+LARGE = {"GLIBC_TUNABLES": "glibc.malloc.hugetlb=1"}
 PATIENCE = 1200
 USED_NAMES = 50  # those that stand most often in the files
 NAME = re.compile(rb"[A-Za-z_]\w+")
 COUNTS = {
     "instructions": r"I\s+refs:\s+([\d,]+)",
-    "first": r"D1\s+misses:\s+([\d,]+)",
-    "last": r"LLd misses:\s+([\d,]+)",
+    "misses": r"D1\s+misses:\s+([\d,]+)",
     "wrong": r"Mispredicts:\s+([\d,]+)",
 }
 
 
-def timed(words, folder, fed):
-    """The seconds of the processor, the pages made, and what is written."""
+def timed(words, folder, fed, more=None):
+    """The seconds of the processor, the pages made, and the lines written."""
     before = resource.getrusage(resource.RUSAGE_CHILDREN)
     said = subprocess.run(
-        words, cwd=folder, input=fed, stdout=subprocess.PIPE, check=True, timeout=PATIENCE
+        words,
+        cwd=folder,
+        input=fed,
+        stdout=subprocess.PIPE,
+        env={**os.environ, **(more or {})},
+        check=True,
+        timeout=PATIENCE,
     ).stdout
     after = resource.getrusage(resource.RUSAGE_CHILDREN)
     seconds = after.ru_utime - before.ru_utime + after.ru_stime - before.ru_stime
-    return seconds, after.ru_minflt - before.ru_minflt, said
+    return {"seconds": seconds, "pages": after.ru_minflt - before.ru_minflt, "said": said}
 
 
 def counted(words, folder, fed):
-    """What cachegrind counts."""
+    """What cachegrind counts, and the lines written."""
     with tempfile.NamedTemporaryFile() as log:
         simulated = ["valgrind", "--tool=cachegrind", "--branch-sim=yes", f"--log-file={log.name}"]
-        subprocess.run(
+        said = subprocess.run(
             simulated + ["--cachegrind-out-file=/dev/null", "--"] + words,
             cwd=folder,
             input=fed,
-            stdout=subprocess.DEVNULL,
+            stdout=subprocess.PIPE,
             check=True,
             timeout=PATIENCE,
-        )
+        ).stdout
         told = pathlib.Path(log.name).read_text()
-    found = {}
+    found = {"lines": said.count(b"\n")}
     for name, pattern in COUNTS.items():
         found[name] = int(re.search(pattern, told)[1].replace(",", ""))
     return found
+
+
+class Work(NamedTuple):
+    """The words of a run but for the files, and its input."""
+
+    words: list
+    fed: bytes = b""
 
 
 class Bench:
     """The files, and the program that works on them."""
 
     def __init__(self, cbrowse, folder, sizes):
-        self.cbrowse, self.folder, self.names = cbrowse, folder, list(sizes)
-        self.size, self.most = sum(sizes.values()), most_used(folder, sizes)
+        self.cbrowse, self.folder = cbrowse, folder
+        self.all, self.few = list(sizes), list(sizes)[::EVERY]
+        self.sizes, self.most = sizes, most_used(folder, sizes)
 
-    def run(self, how, command, *more, fed=b""):
-        return how([self.cbrowse, command, *more, "--", *self.names], self.folder, fed)
+    def words(self, work, names):
+        return [self.cbrowse, *work.words, "--", *names]
 
-    def put(self, label, unit, work, without=None, units=None):
-        """A row: the work, less the work of another run, for each of so many units, or else of the
-        lines that the work writes more."""
-        runs = [self.run(timed, *work[0], fed=work[1]) for _ in range(RUNS)]
-        seconds, pages, lines = min(r[0] for r in runs), runs[0][1], runs[0][2].count(b"\n")
-        counts = collections.Counter(self.run(counted, *work[0], fed=work[1]))
-        if without:
-            runs = [self.run(timed, *without[0], fed=without[1]) for _ in range(RUNS)]
-            seconds -= min(r[0] for r in runs)
-            pages -= runs[0][1]
-            lines -= runs[0][2].count(b"\n")
-            counts.subtract(self.run(counted, *without[0], fed=without[1]))
-        units = units or lines
-        told = f"{label:<30}{units:>12,} {unit:<7}{seconds * 1e9 / units:>10.1f} ns"
-        for name, places in ("instructions", 1), ("first", 3), ("last", 3), ("wrong", 3):
-            told += f"{counts[name] / units:>11.{places}f}"
-        print(told + f"{pages / units:>10.4f}", flush=True)
+    def time(self, work, more=None):
+        runs = [
+            timed(self.words(work, self.all), self.folder, work.fed, more) for _ in range(RUNS)
+        ]
+        lines = runs[0]["said"].count(b"\n")
+        pages = min(run["pages"] for run in runs)
+        return {"seconds": min(run["seconds"] for run in runs), "pages": pages, "lines": lines}
+
+    def count(self, work):
+        return counted(self.words(work, self.few), self.folder, work.fed)
+
+    def put(self, label, work, without=None, times=0):
+        """A row: the work, less that of another run, for each byte of the files, so many times
+        over, or else for each line that is written more."""
+        found = {}
+        for name, how in (
+            ("plain", self.time),
+            ("large", lambda it: self.time(it, LARGE)),
+            ("count", self.count),
+        ):
+            got = collections.Counter(how(work))
+            if without:
+                got.subtract(how(without))
+            names = self.few if name == "count" else self.all
+            size = sum(self.sizes[it] for it in names)
+            got["units"] = times * size if times else got["lines"]
+            found[name] = {key: value / got["units"] for key, value in got.items()}
+        plain, large, count = found["plain"], found["large"], found["count"]
+        told = f"{label:<36}{'byte' if times else 'line':<6}{plain['seconds'] * 1e9:>8.1f}"
+        told += f"{large['seconds'] * 1e9:>8.1f}{plain['pages']:>10.5f}"
+        told += f"{count['instructions']:>10.1f}{count['misses']:>9.3f}{count['wrong']:>9.3f}"
+        print(told, flush=True)
 
 
 def scan(bench):
     for profile in [], ["--wide"]:
-        one, three = ((["line", *profile], b"r\n" * n) for n in (1, 3))
-        label = "scanned, " + ("wide" if profile else "standard")
-        bench.put(label, "bytes", three, one, 2 * bench.size)
+        once, thrice = (Work(["line", *profile], b"r\n" * n) for n in (1, 3))
+        bench.put("scanned, " + ("wide" if profile else "standard"), thrice, once, 2)
 
 
 def start(bench):
     for profile in [], ["--wide"]:
-        label = "ready, " + ("wide" if profile else "standard")
-        bench.put(label, "bytes", (["line", *profile], b""), None, bench.size)
+        label = "a session, ready, " + ("wide" if profile else "standard")
+        bench.put(label, Work(["line", *profile]), None, 1)
 
 
 def tags(bench):
     for form in "1", "2":
-        words = ["tags", "--format", form, "-f", "-"]
-        bench.put(f"tags file, format {form}", "bytes", (words, b""), None, bench.size)
-    asked = [(["line"], b":tags 2\n" * n) for n in (1, 5)]
-    bench.put(":tags 2, in order", "lines", asked[1], asked[0])
+        work = Work(["tags", "--format", form, "-f", "-"])
+        bench.put(f"a tags file, format {form}", work, None, 1)
+    once, often = (Work(["line"], b":tags 2\n" * n) for n in (1, 5))
+    bench.put(":tags 2, the second time", often, once)
 
 
 def first(bench):
-    """The first question of each kind that many answer, which puts what it reads in order."""
+    idle = Work(["line"])
     for label, field in ("uses", b"0"), ("callees", b"2"), ("callers", b"3"):
         name = most_answers(bench, field)
-        once, twice = ((["line"], (field + name + b"\n") * n) for n in (1, 2))
-        idle = ["line"], b""
-        bench.put(f"first question, {label}", "bytes", once, idle, bench.size)
-        bench.put("the same once more", "rows", twice, once)
+        bench.put(f"the first question, {label}", Work(["line"], field + name + b"\n"), idle, 1)
 
 
 def most_answers(bench, field):
     """The one of the names used most that has most rows in this field."""
-    best = b"", -1
-    asked = b"".join(field + name + b"\n" for name in bench.most)
-    said = bench.run(timed, "line", fed=asked)[2]
-    replies = re.findall(rb"cscope: (\d+) lines", said)
-    for name, count in zip(bench.most, replies):
-        best = max(best, (name, int(count)), key=lambda it: it[1])
-    return best[0]
+    asked = Work(["line"], b"".join(field + name + b"\n" for name in bench.most))
+    said = timed(bench.words(asked, bench.all), bench.folder, asked.fed)["said"]
+    counts = [int(it) for it in re.findall(rb"cscope: (\d+) lines", said)]
+    return bench.most[counts.index(max(counts))]
 
 
 def rows(bench):
     asked = b"".join(b"0" + name + b"\n" for name in bench.most)
-    once, thrice = ((["line"], asked * n) for n in (1, 3))
-    bench.put("uses of the names used most", "rows", thrice, once)
+    bench.put("uses of the names used most", Work(["line"], asked * 3), Work(["line"], asked))
 
 
 def find(bench):
     for field, pattern in ("0", "main"), ("1", "main"), ("4", "zzqq"):
-        label = f"find {field}, the whole process"
-        bench.put(label, "bytes", (["find", field, pattern], b""), None, bench.size)
+        bench.put(f"find {field}, the whole process", Work(["find", field, pattern]), None, 1)
 
 
 def most_used(folder, names):
@@ -166,16 +190,15 @@ def most_used(folder, names):
 
 def main():
     parser = options(__doc__)
-    parser.add_argument("--part", action="append", choices=PARTS)
-    parser.add_argument("folder", type=pathlib.Path, metavar="FOLDER")
+    parser.add_argument("--part", action="append", choices=PARTS, help="measure this alone")
+    parser.add_argument("folder", type=pathlib.Path, help="a folder with C files")
     given = words_given(parser)
     keep_to_one_core()
-    if not installed("valgrind", "--version", "valgrind", "valgrind"):
-        return
+    if not installed("valgrind", "--version", "valgrind"):
+        raise SystemExit(1)
     bench = Bench(given.cbrowse, given.folder, c_files(given.folder, most=MOST_FILES))
-    print(f"{len(bench.names):,} files, {bench.size / 1e6:.1f} MB")
-    heads = "instr.", "1st cache", "memory", "guesses", "pages"
-    print(f"{'':<63}" + "".join(f"{it:>11}" for it in heads[:4]) + f"{heads[4]:>10}")
+    print(f"{len(bench.all):,} files, {sum(bench.sizes.values()) / 1e6:.1f} MB")
+    print(f"{'':<42}{'ns':>8}{'large':>8}{'pages':>10}{'instr.':>10}{'misses':>9}{'guesses':>9}")
     for part in given.part or PARTS:
         globals()[part](bench)
 
