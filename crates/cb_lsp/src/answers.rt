@@ -12,6 +12,7 @@ ghost use Rattle.std.specs.Prelude.{
   map,
   take,
   true,
+  IfOk,
 };
 ghost use Rattle.std.specs.List.{list_any};
 ghost use Rattle.std.specs.Option.{option_map};
@@ -82,11 +83,13 @@ use cb_wire::{
     Elements, Id, MOST_ELEMENTS, Part, Range, place_of_position, put_list_result, put_range_result,
     put_result,
 };
+use std::alloc::{AllocError, Global};
 use std::io::Write;
 
 /// A file that is asked about, what scanning it gives, and what the client takes.
 #[derive(Clone, Copy)]
 pub(crate) struct FileAsked<'a> {
+    pub(crate) alloc: Global,
     pub(crate) forms: Forms<'a>,
     pub(crate) desk: &'a Desk,
     pub(crate) name: &'a [u8],
@@ -120,6 +123,36 @@ pub(crate) fn put_list<W: Write, I: Elements>(
         (frame (value_text (result_reply (id_json id.entry) (list_of js)))) }
 {
     put_first(out, id, MOST_ELEMENTS, elements)
+}
+
+/// The elements of a list, each found once. Memory may be refused to them.
+fn gathered<I: Elements>(alloc: Global, elements: I) -> Result<Vec<I::Item>, AllocError>
+    ensures { IfOk result (λ list. map I.Item.text list.items ≡ I.texts elements) }
+{
+    let mut left = elements;
+    let mut list = Vec::new(alloc);
+    'elements: while let Some(one) = left.next() {
+        list.push(one)?;
+    }
+    Ok(list)
+}
+
+/// Writes a reply whose result is a list. Its elements are counted first and then written; so they
+/// are gathered, where there is memory for them, and else are found twice.
+fn put_gathered<W: Write, I: Elements>(
+    alloc: Global,
+    out: &mut Sink<W>,
+    id: Id<'_>,
+    elements: I,
+) -> Result<(), WriteFault>
+    ensures { (js : List Json) → I.texts elements ≡ map value_text js
+        → Puts out.old out.new result
+        (frame (value_text (result_reply (id_json id.entry) (list_of js)))) }
+{
+    match gathered(alloc, elements.again()) {
+        Ok(list) => put_list(out, id, list.as_slice()),
+        Err(_) => put_list(out, id, elements),
+    }
 }
 
 /// Writes a reply that shows definitions, for what stands at a range.
@@ -414,7 +447,8 @@ impl<'a> FileAsked<'a> {
             self.now.name.now self.now.source.now declarations word)))) }
     {
         match word {
-            Some(word) => put_list(
+            Some(word) => put_gathered(
+                self.alloc,
                 out,
                 id,
                 UsePlaces {

@@ -329,7 +329,7 @@ impl Server {
         match path_of_uri(alloc, uri.as_bytes()) {
             Ok(Some(path)) => {
                 let name = self.root.name(path.as_slice());
-                self.answer_in(out, id, name, question)
+                self.answer_in(alloc, out, id, name, question)
             }
             Ok(None) => put_null(out, id),
             Err(_) => put_refusal(out, id),
@@ -339,6 +339,7 @@ impl Server {
     /// Answers a question about the file of a name.
     fn answer_in<W: Write>(
         &self,
+        alloc: Global,
         out: &mut Sink<W>,
         id: Id<'_>,
         name: &[u8],
@@ -350,6 +351,7 @@ impl Server {
         match self.work.desk().scanned(name) {
             Some((source, facts)) => {
                 let asked = FileAsked {
+                    alloc,
                     forms: self.forms(),
                     desk: self.work.desk(),
                     name,
@@ -404,6 +406,7 @@ impl Server {
         match self.work.desk().scanned(name) {
             Some((source, facts)) => {
                 let asked = FileAsked {
+                    alloc,
                     forms: self.forms(),
                     desk: self.work.desk(),
                     name,

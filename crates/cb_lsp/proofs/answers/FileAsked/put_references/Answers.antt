@@ -17,21 +17,21 @@ returns-in-Some g c =
     let w = f.desk.now.timeline.present in
     let place = place_of_use (client_in f.forms) w.files in
     let found = references_left c.references.result in
-    subst (λ o. Puts c.args.out.now c.put_list.new.out c.put_list.result
+    subst (λ o. Puts c.args.out.now c.put_gathered.new.out c.put_gathered.result
     (frame (value_text (result_reply (id_json c.args.id)
     (references_of_word (client_in f.forms) w f.name.now f.source.now c.args.declarations o)))))
     (sym c.in-Some.is)
-    (subst (λ us. Puts c.args.out.now c.put_list.new.out c.put_list.result
+    (subst (λ us. Puts c.args.out.now c.put_gathered.new.out c.put_gathered.result
     (frame (value_text (result_reply (id_json c.args.id) (list_of (map place us))))))
     c.references.ensures
-    (c.put_list.ensures (map place found)
+    (c.put_gathered.ensures (map place found)
     (ap (λ (l : Locating). map (λ u. value_text (place_of_use l.client l.files u)) found)
     c.new.ensures ∙ map-map value_text place found)))
 
 pub returns-in-None : goal.returns-in-None
 returns-in-None g c =
     let f = c.args.self.now in
-    subst (λ o. Puts c.args.out.now c.put_list-in-None.new.out c.put_list-in-None.result
+    subst (λ o. Puts c.args.out.now c.put_list.new.out c.put_list.result
     (frame (value_text (result_reply (id_json c.args.id) (references_of_word (client_in f.forms)
     f.desk.now.timeline.present f.name.now f.source.now c.args.declarations o)))))
-    (sym c.in-None.is) (c.put_list-in-None.ensures [] refl)
+    (sym c.in-None.is) (c.put_list.ensures [] refl)
