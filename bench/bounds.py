@@ -36,6 +36,7 @@ from measure import MOST_FILES, c_files, installed, keep_to_one_core, options, w
 PARTS = "scan", "start", "tags", "first", "rows", "find"
 RUNS = 3
 EVERY = 8  # of the files that are counted
+OFTEN = 15  # answers beside one, which takes less than a start does by chance more or less
 LARGE = {"GLIBC_TUNABLES": "glibc.malloc.hugetlb=1"}
 PATIENCE = 1200
 USED_NAMES = 50  # those that stand most often in the files
@@ -151,7 +152,7 @@ def tags(bench):
     for form in "1", "2":
         work = Work(["tags", "--format", form, "-f", "-"])
         bench.put(f"a tags file, format {form}", work, None, 1)
-    once, often = (Work(["line"], b":tags 2\n" * n) for n in (1, 5))
+    once, often = (Work(["line"], b":tags 2\n" * n) for n in (1, 1 + OFTEN))
     bench.put(":tags 2, the second time", often, once)
 
 
@@ -172,7 +173,8 @@ def most_answers(bench, field):
 
 def rows(bench):
     asked = b"".join(b"0" + name + b"\n" for name in bench.most)
-    bench.put("uses of the names used most", Work(["line"], asked * 3), Work(["line"], asked))
+    once, often = (Work(["line"], asked * n) for n in (1, 1 + OFTEN))
+    bench.put("uses of the names used most", often, once)
 
 
 def find(bench):
