@@ -15,8 +15,8 @@ where the system lets a process choose one. With --part only what is named is me
 ready     From the start to the reply to `initialize`, and from the start to the first prompt of
           `cbrowse line` with the same files, in turn: by the clock the least and the median of
           five, and the least processor time of whole runs. Then the most that each has resident.
-          The first question puts definitions in order: its time, that of the same once more, and
-          what is resident then.
+          The first `definition` puts definitions in order: its time, that of the same once more,
+          and what is resident then.
 ask       `definition`, `hover` and `documentHighlight` at a thousand names in the files that are
           defined somewhere, `completion` behind the second letter of each, and `definition` at a
           thousand headers, which looks at all files;
@@ -433,7 +433,8 @@ def ready(cbrowse, names, folder):
     print(f"{'memory of cbrowse line':<34}{most / 1e6:>10.1f} MB")
     server = Server([cbrowse, "lsp", "--"] + names, folder)
     put_resident("memory of cbrowse lsp", server, most, "cbrowse line")
-    first, again = (server.ask(server.symbols(names[0]))[1] for _ in range(2))
+    (question,) = at_places(server, "textDocument/definition", [(names[0], 0, 0)])
+    first, again = (server.ask(question)[1] for _ in range(2))
     print(f"{'first question':<34}{first * 1000:>10.1f} ms   once more {again * 1000:.3f} ms")
     put_resident("memory then", server, most, "cbrowse line")
     server.end()
