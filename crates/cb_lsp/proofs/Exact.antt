@@ -15,6 +15,7 @@ use Rattle.cb_desk.proofs.Valid.{all-both, all-passed}
 use Rattle.cb_desk.specs.World.{File, text_of_file}
 use Rattle.cb_index.specs.Rows.{Fact, tags_named, uses_of}
 use Rattle.cb_scan.proofs.WithinLemmas.{all-filter, all-take}
+use Rattle.cb_scan.specs.Definitions.{IsNameOf}
 use Rattle.cb_scan.specs.Order.{AreOrdered}
 use Rattle.cb_scan.specs.declared.lex.piece.Span.{Span}
 use Rattle.cb_scan.specs.lex.Tokens.{bytes_of}
@@ -30,7 +31,7 @@ use Rattle.cb_lsp.specs.Clients.{Client}
 use Rattle.cb_lsp.specs.Exact.{Edit, IsRenamed, Makes, RenamesAreExact, last_first}
 use Rattle.cb_lsp.specs.Meaning.{reaches}
 use Rattle.cb_lsp.specs.Places.{range_of}
-use Rattle.cb_lsp.specs.Ranges.{IsNameOf, IsUseIn, span_of}
+use Rattle.cb_lsp.specs.Ranges.{IsUseIn, span_of}
 use Rattle.cb_lsp.specs.Renames.{renamed_uses, use_edit, uses_in}
 use Rattle.cb_lsp.specs.Sync.{text_through}
 use Rattle.cb_lsp.proofs.NamePlaces.{HasPlaces, name-places}

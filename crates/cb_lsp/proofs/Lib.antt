@@ -24,16 +24,10 @@ pub mod Likes
 pub mod Listed
 pub mod ManyTurns
 pub mod Marks
-pub mod NamedCalls
-pub mod NamedDefs
 pub mod NamePlaces
-pub mod NamedLists
-pub mod NamedParts
-pub mod NamedStandard
+pub mod NamedCalls
 pub mod NamedTags
-pub mod NamedTokens
 pub mod NamedUses
-pub mod NamedWide
 pub mod NamedWords
 pub mod NoText
 pub mod Notices

@@ -8,6 +8,7 @@ use Rattle.std.proofs.lemmas.Bool.{true≢false}
 use Rattle.std.proofs.lemmas.Bool.Decides.{nat_tests}
 use Rattle.std.proofs.lemmas.List.{length-take}
 use Rattle.std.proofs.lemmas.List.Folds.{list_all_at}
+use Rattle.cb_scan.specs.Definitions.{IsNameOf}
 use Rattle.cb_scan.specs.declared.lex.piece.Span.{Span}
 use Rattle.cb_scan.specs.lex.Lexeme.{is_identifier, is_word}
 use Rattle.cb_scan.specs.lex.Reserved.{is_name, is_reserved}
@@ -15,7 +16,6 @@ use Rattle.cb_scan.specs.lex.Tokens.{bytes_of}
 use Rattle.cb_wire.specs.declared.units.Encoding.{Encoding}
 use Rattle.cb_wire.specs.Positions.{IsPlace}
 use Rattle.cb_wire.proofs.Letters.{IsLetter, letter-place}
-use Rattle.cb_lsp.specs.Ranges.{IsNameOf}
 use Rattle.cb_lsp.proofs.Ranged.{letter-word}
 
 word-low : (b : ℕ) → is_word b ≡ true → b < 128

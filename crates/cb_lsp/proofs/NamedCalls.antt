@@ -7,6 +7,7 @@ use Rattle.cb_desk.proofs.Valid.{all-both, all-passed}
 use Rattle.cb_desk.specs.World.{File, IsAscending, World}
 use Rattle.cb_index.specs.Rows.{Fact, call_in, calls_of, file_calls_of, tags_named}
 use Rattle.cb_scan.proofs.FactsWithin.{facts_lie}
+use Rattle.cb_scan.proofs.NamedLists.{all-flat, all-made}
 use Rattle.cb_scan.proofs.WithinLemmas.{all-filter}
 use Rattle.cb_scan.specs.Definitions.{IsWithin}
 use Rattle.cb_scan.specs.Profiles.{facts_in}
@@ -17,7 +18,6 @@ use Rattle.cb_scan.specs.lex.Tokens.{bytes_of}
 use Rattle.cb_lsp.specs.Calls.{calls_reached}
 use Rattle.cb_lsp.specs.Meaning.{reaches}
 use Rattle.cb_lsp.specs.Ranges.{IsUseIn, StandsIn}
-use Rattle.cb_lsp.proofs.NamedLists.{all-flat, all-made}
 use Rattle.cb_lsp.proofs.NamedTags.{IsOwn, name-stands, own-texts}
 
 module _ (files : List File) (p : Profile) (name : List ℕ) (is : is_name name ≡ true) where

@@ -15,8 +15,10 @@ use Rattle.cb_desk.specs.World.{File, IsAscending, World, text_of_file}
 use Rattle.cb_desk.specs.declared.tags.Format.TheVariants.{Extended}
 use Rattle.cb_index.specs.Rows.{file_tags_named, tag_in, tags_named}
 use Rattle.cb_scan.proofs.FactsWithin.{all_in_order}
+use Rattle.cb_scan.proofs.NamedDefs.{defs-named}
+use Rattle.cb_scan.proofs.NamedLists.{all-flat, all-made}
 use Rattle.cb_scan.proofs.WithinLemmas.{all-append, all-filter, all-take}
-use Rattle.cb_scan.specs.Definitions.{IsWithin}
+use Rattle.cb_scan.specs.Definitions.{IsNameOf, IsWithin}
 use Rattle.cb_scan.specs.Profiles.{facts_in}
 use Rattle.cb_scan.specs.declared.facts.Def.{Def}
 use Rattle.cb_scan.specs.declared.lex.piece.Span.{Span}
@@ -25,11 +27,9 @@ use Rattle.cb_scan.specs.lex.Tokens.{bytes_of}
 use Rattle.cb_tags.specs.TagLines.{Tag}
 use Rattle.cb_lsp.specs.Answers.{word_meaning}
 use Rattle.cb_lsp.specs.Meaning.{meaning, or_all, reached, reaches}
-use Rattle.cb_lsp.specs.Ranges.{IsNameOf, IsNamedIn, StandsIn, span_of}
+use Rattle.cb_lsp.specs.Ranges.{IsNamedIn, StandsIn, span_of}
 use Rattle.cb_lsp.specs.Searches.{found_by, is_like}
 use Rattle.cb_lsp.specs.declared.symbols.TheConstants.{MOST_SYMBOLS}
-use Rattle.cb_lsp.proofs.NamedDefs.{defs-named}
-use Rattle.cb_lsp.proofs.NamedLists.{all-flat, all-made}
 
 -- ---- each file has its own name
 later-texts : (f : File) (fs gs : List File)

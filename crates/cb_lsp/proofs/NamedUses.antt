@@ -7,8 +7,9 @@ use Rattle.cb_desk.proofs.Valid.{all-both, all-passed}
 use Rattle.cb_desk.specs.World.{File, IsAscending, World}
 use Rattle.cb_index.specs.Rows.{Fact, file_uses_of, tags_named, use_in, uses_of}
 use Rattle.cb_scan.proofs.FactsWithin.{facts_lie}
+use Rattle.cb_scan.proofs.NamedLists.{all-flat, all-made}
 use Rattle.cb_scan.proofs.WithinLemmas.{all-filter}
-use Rattle.cb_scan.specs.Definitions.{IsWithin}
+use Rattle.cb_scan.specs.Definitions.{IsNameOf, IsWithin}
 use Rattle.cb_scan.specs.Profiles.{facts_in}
 use Rattle.cb_scan.specs.declared.facts.Use.{Use}
 use Rattle.cb_scan.specs.declared.lex.piece.Span.{Span}
@@ -18,9 +19,8 @@ use Rattle.cb_scan.specs.lex.Tokens.{bytes_of}
 use Rattle.cb_tags.specs.TagLines.{Tag}
 use Rattle.cb_lsp.specs.Answers.{word_references}
 use Rattle.cb_lsp.specs.Meaning.{reaches}
-use Rattle.cb_lsp.specs.Ranges.{IsNameOf, IsUseIn, StandsIn}
+use Rattle.cb_lsp.specs.Ranges.{IsUseIn, StandsIn}
 use Rattle.cb_lsp.specs.References.{is_declaration, references, uses_reached}
-use Rattle.cb_lsp.proofs.NamedLists.{all-flat, all-made}
 use Rattle.cb_lsp.proofs.NamedTags.{IsOwn, name-stands, own-texts}
 
 module _ (files : List File) (p : Profile) (name : List ℕ) (is : is_name name ≡ true) where

@@ -8,6 +8,7 @@ use Rattle.std.proofs.lemmas.Bool.{cases_Bool, cond-false, cond-true}
 use Rattle.std.proofs.lemmas.List.{length-take}
 use Rattle.std.proofs.lemmas.List.Sums.{prefix_len-le-length, sum_by-cons}
 use Rattle.bstr.specs.Text.{lines_of, no_cr, without_terminator}
+use Rattle.cb_scan.specs.Definitions.{IsNameOf}
 use Rattle.cb_scan.specs.declared.lex.piece.Span.{Span}
 use Rattle.cb_scan.specs.lex.Lexeme.{is_word}
 use Rattle.cb_scan.specs.lex.Reserved.{is_name}
@@ -17,7 +18,6 @@ use Rattle.cb_wire.specs.declared.units.Encoding.{Encoding}
 use Rattle.cb_wire.specs.Positions.{place, shown_line}
 use Rattle.cb_wire.proofs.Fitting.{boundary-within, names_a_place}
 use Rattle.cb_wire.proofs.Lines.{text-length}
-use Rattle.cb_lsp.specs.Ranges.{IsNameOf}
 use Rattle.cb_lsp.specs.Words.{run_at, word_at}
 
 -- ---- places of positions lie in the text

@@ -7,6 +7,7 @@ use Rattle.std.proofs.lemmas.Bool.{true≢false}
 use Rattle.std.proofs.lemmas.Bool.Decides.{eqb_tells, leb_tells}
 use Rattle.std.proofs.lemmas.List.Sums.{sum_by-append, sum_by-cons}
 use Rattle.std.proofs.Math.Seq.{take-add}
+use Rattle.cb_scan.specs.Definitions.{IsNameOf}
 use Rattle.cb_scan.specs.declared.lex.piece.Span.{Span}
 use Rattle.cb_scan.specs.lex.Lexeme.{is_identifier, is_letter, is_word}
 use Rattle.cb_scan.specs.lex.Reserved.{is_name, is_reserved}
@@ -15,7 +16,7 @@ use Rattle.cb_wire.specs.Positions.{line_feeds, line_start, shown_line}
 use Rattle.cb_wire.specs.Units.{column, first}
 use Rattle.cb_wire.proofs.Fitting.{first_is, measured-end, measured-step, measured-stop}
 use Rattle.cb_lsp.specs.Places.{line_range, range_of, range_of_line, start_of_file, whole_line}
-use Rattle.cb_lsp.specs.Ranges.{IsInOrder, IsNameOf, LiesInside}
+use Rattle.cb_lsp.specs.Ranges.{IsInOrder, LiesInside}
 
 -- ---- columns
 

@@ -4,6 +4,7 @@ use Rattle.std.specs.Prelude.{Some, reverse}
 use Rattle.bstr.specs.Text.{part}
 use Rattle.cb_desk.specs.World.{File, IsAscending, World, text_of_file}
 use Rattle.cb_index.specs.Rows.{Fact}
+use Rattle.cb_scan.specs.Definitions.{IsNameOf}
 use Rattle.cb_scan.specs.declared.lex.piece.Span.{Span}
 use Rattle.cb_scan.specs.lex.Tokens.{bytes_of}
 use Rattle.cb_wire.specs.declared.list.TheConstants.{MOST_ELEMENTS}
@@ -14,7 +15,6 @@ use Rattle.cb_wire.specs.Positions.{place}
 use Rattle.cb_lsp.specs.Changes as change
 use Rattle.cb_lsp.specs.Changes.{TextChange}
 use Rattle.cb_lsp.specs.Clients.{Client}
-use Rattle.cb_lsp.specs.Ranges.{IsNameOf}
 use Rattle.cb_lsp.specs.Renames.{file_edits, renamed_uses, uses_in}
 use Rattle.cb_lsp.specs.Sync.{text_through}
 

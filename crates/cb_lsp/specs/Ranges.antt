@@ -1,8 +1,7 @@
--- Ranges in order, and names that stand in a text.
-use Rattle.std.specs.Prelude.{◌≡◌, ◌<◌, ◌≤◌, ◌⊎◌, ◌+◌, ℕ, true, List, length}
-use Rattle.cb_scan.specs.Definitions.{IsWithin}
+-- Ranges in order, and names that stand in the text of a file.
+use Rattle.std.specs.Prelude.{◌≡◌, ◌<◌, ◌≤◌, ◌⊎◌, ◌+◌, ℕ, List, length}
+use Rattle.cb_scan.specs.Definitions.{IsNameOf}
 use Rattle.cb_scan.specs.declared.lex.piece.Span.{Span}
-use Rattle.cb_scan.specs.lex.Reserved.{is_name}
 use Rattle.cb_scan.specs.lex.Tokens.{bytes_of}
 use Rattle.cb_desk.specs.World.{File, text_of_file}
 use Rattle.cb_index.specs.Rows.{Fact}
@@ -21,10 +20,6 @@ IsInOrder r = IsNotBehind r.start r.end
 -- a range lies in another: it does not begin before it or end behind it
 abbrev pub LiesInside : (inner outer : Range) → Type 0
 LiesInside inner outer = IsNotBehind outer.start inner.start × IsNotBehind inner.end outer.end
-
--- a span lies in the text, and a name stands there
-abbrev pub IsNameOf : List ℕ → Span → Type 0
-IsNameOf text span = IsWithin text span × (is_name (bytes_of text span) ≡ true)
 
 -- where a name is that begins at a place
 abbrev pub span_of : (name : List ℕ) → (place : ℕ) → Span

@@ -1,10 +1,8 @@
 //! What follows from the definitions alone: no code runs here.
 ghost use Rattle.std.specs.Prelude.{◌≡◌, ◌≤◌, ℕ, Bool, true, List, Some};
 ghost use Rattle.std.specs.List.{AllByRecursion};
-ghost use Rattle.cb_scan.specs.declared.facts.Def.{Def};
+ghost use Rattle.cb_scan.specs.Definitions.{IsNameOf};
 ghost use Rattle.cb_scan.specs.declared.lex.piece.Span.{Span};
-ghost use Rattle.cb_scan.specs.declared.profile.Profile.{Profile};
-ghost use Rattle.cb_scan.specs.Profiles.{facts_in};
 ghost use Rattle.cb_scan.specs.lex.Reserved.{is_name};
 ghost use Rattle.cb_scan.specs.lex.Tokens.{bytes_of};
 ghost use Rattle.cb_wire.specs.declared.position.Position.{Position};
@@ -16,7 +14,7 @@ ghost use Rattle.cb_lsp.specs.Calls.{calls_reached};
 ghost use Rattle.cb_lsp.specs.Editors.{EditorsCountUnits, EditorsStayInSync};
 ghost use Rattle.cb_lsp.specs.Exact.{RenamesAreExact};
 ghost use Rattle.cb_lsp.specs.Places.{line_range, range_of, range_of_line, start_of_file};
-ghost use Rattle.cb_lsp.specs.Ranges.{IsInOrder, IsNameOf, IsNamedIn, IsUseIn, LiesInside};
+ghost use Rattle.cb_lsp.specs.Ranges.{IsInOrder, IsNamedIn, IsUseIn, LiesInside};
 ghost use Rattle.cb_lsp.specs.Searches.{found_by};
 ghost use Rattle.cb_lsp.specs.Sync.{
   DocumentsStayInSync,
@@ -62,14 +60,12 @@ pub fn ranges_are_in_order()
 {}
 
 /// Where an answer has the range of a name, that name stands there: the word at a position; the name
-/// of each definition of a text, by every profile; the name of each definition that a word means or
-/// a query finds, and each use and each call of a name that is asked for, in the text that its file
-/// has.
+/// of each definition that a word means or a query finds, and each use and each call of a name that
+/// is asked for, in the text that its file has. `names_stand_in_text` of `cb_scan` says the same of
+/// the definitions of a text.
 pub fn ranges_are_of_names()
     ensures word { (e : Encoding) (text : List ℕ) (p : Position) (word : Span)
         → word_at text (place e text p) ≡ Some word → IsNameOf text word }
-    ensures definition { (profile : Profile) (text : List ℕ)
-        → AllByRecursion (λ (d : Def). IsNameOf text d.name) (facts_in profile text).defs }
     ensures meaning { (w : World) (name text : List ℕ) (word : Span) → IsAscending w.files
         → AllByRecursion (IsNamedIn w.files) (word_meaning w name text word) }
     ensures uses { (w : World) (name text : List ℕ) (word : Span) (declarations : Bool)

@@ -26,6 +26,12 @@ pub mod LinedPieces
 pub mod Literals
 pub mod MacroLines
 pub mod Merging
+pub mod NamedDefs
+pub mod NamedLists
+pub mod NamedParts
+pub mod NamedStandard
+pub mod NamedTokens
+pub mod NamedWide
 pub mod OldStyleLemmas
 pub mod OpenBodies
 pub mod OpenCalls

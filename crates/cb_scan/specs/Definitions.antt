@@ -1,5 +1,5 @@
 -- The definitions of a text, and all that is found in it.
-use Rattle.std.specs.Prelude.{ℕ, ◌≤◌, false, List, Option, None, ◌++◌, length, map}
+use Rattle.std.specs.Prelude.{ℕ, ◌≡◌, ◌≤◌, false, true, List, Option, None, ◌++◌, length, map}
 use Rattle.std.specs.List.{AllByRecursion}
 use Rattle.std.specs.Option.{MatchOption}
 use Rattle.cb_scan.specs.declared.facts.Call.{Call}
@@ -11,6 +11,8 @@ use Rattle.cb_scan.specs.declared.facts.Kind.TheVariants as kind
 use Rattle.cb_scan.specs.declared.lex.piece.Piece.{Piece}
 use Rattle.cb_scan.specs.declared.lex.piece.Span.{Span}
 use Rattle.cb_scan.specs.declared.lex.token.Token.{Token}
+use Rattle.cb_scan.specs.lex.Reserved.{is_name}
+use Rattle.cb_scan.specs.lex.Tokens.{bytes_of}
 use Rattle.cb_scan.specs.rules.Code.{code}
 use Rattle.cb_scan.specs.rules.Functions.{Function, functions}
 use Rattle.cb_scan.specs.Lines.{IsLineOf}
@@ -85,6 +87,10 @@ facts_of text = facts_from text (pieces text)
 -- the span lies in the text
 abbrev pub IsWithin : List ℕ → Span → Type 0
 IsWithin text span = (span.start ≤ span.end) × (span.end ≤ length text)
+
+-- the span lies in the text, and a name stands there
+abbrev pub IsNameOf : List ℕ → Span → Type 0
+IsNameOf text span = IsWithin text span × (is_name (bytes_of text span) ≡ true)
 
 -- the span lies in the text, if there is one
 abbrev pub IsScopeWithin : List ℕ → Option Span → Type 0

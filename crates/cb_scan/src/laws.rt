@@ -1,10 +1,12 @@
 //! What holds of every text, as functions that do nothing and whose contracts are the laws.
 ghost use Rattle.std.specs.Prelude.{◌≡◌, ◌↔◌, ℕ, true, List, length, map};
 ghost use Rattle.std.specs.List.{AllByRecursion};
+ghost use Rattle.cb_scan.specs.declared.facts.Def.{Def};
 ghost use Rattle.cb_scan.specs.declared.lex.piece.Piece.{Piece};
 ghost use Rattle.cb_scan.specs.declared.profile.Profile.{Profile};
 ghost use Rattle.cb_scan.specs.declared.profile.Rules.{Rules};
 ghost use Rattle.cb_scan.specs.declared.profile.Rules.TheVariants.{Prototypes, Standard};
+ghost use Rattle.cb_scan.specs.Definitions.{IsNameOf};
 ghost use Rattle.cb_scan.specs.lex.Pieces.{IsPieces, Adjoin, LiesIn};
 ghost use Rattle.cb_scan.specs.lex.Lexeme.{IsClosedLiteral};
 ghost use Rattle.cb_scan.specs.Order.{AreInOrder};
@@ -67,4 +69,11 @@ pub fn rules_agree()
 pub fn objects_beside_functions()
     ensures { (text : List ℕ) → AllByRecursion (IsBesideFunctions text (pieces text))
         (definitions_by Prototypes text (pieces text)) }
+{}
+
+/// The name of each definition that a profile finds lies in the text, and what stands there is a
+/// name: an identifier that is no reserved word.
+pub fn names_stand_in_text()
+    ensures { (profile : Profile) (text : List ℕ)
+        → AllByRecursion (λ (d : Def). IsNameOf text d.name) (facts_in profile text).defs }
 {}

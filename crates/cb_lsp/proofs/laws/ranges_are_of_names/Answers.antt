@@ -1,5 +1,4 @@
 use Rattle.cb_lsp.proofs.NamedCalls.{reached-named}
-use Rattle.cb_lsp.proofs.NamedDefs.{defs-named}
 use Rattle.cb_lsp.proofs.NamedTags.{found-named, meaning-named}
 use Rattle.cb_lsp.proofs.NamedUses.{references-named}
 use Rattle.cb_lsp.proofs.NamedWords.{word-named}
@@ -7,9 +6,6 @@ use Rattle.cb_lsp.proofs.laws.ranges_are_of_names.Goals as goal
 
 pub returns-clause-word : goal.returns-clause-word
 returns-clause-word c = word-named
-
-pub returns-clause-definition : goal.returns-clause-definition
-returns-clause-definition c = defs-named
 
 pub returns-clause-meaning : goal.returns-clause-meaning
 returns-clause-meaning c = meaning-named

@@ -1,4 +1,4 @@
-use Rattle.std.proofs.Common.{◌≡◌, ◌∙◌, sym, ap}
+use Rattle.std.proofs.Common.{◌∙◌, sym, ap}
 use Rattle.cb_scan.specs.Profiles.{ranges_by, ranges_in}
 use Rattle.cb_scan.proofs.PieceLists.{pieces-only}
 use Rattle.cb_scan.proofs.scanner.function_ranges.Goals as goal

@@ -8,6 +8,9 @@ use Rattle.std.specs.Option.{MatchOption, option_map_or, option_or}
 use Rattle.cb_scan.specs.declared.facts.Kind.{Kind}
 use Rattle.cb_scan.specs.declared.facts.Kind.TheVariants as kind
 use Rattle.cb_scan.specs.declared.facts.Tag.{Tag}
+use Rattle.cb_scan.specs.declared.rules.scope.Range.{Range}
+use Rattle.cb_scan.specs.declared.rules.wide.token.WideToken.{WideToken}
+use Rattle.cb_scan.specs.Definitions.{IsNameOf}
 use Rattle.cb_scan.specs.rules.Typedefs.{nesting_after}
 use Rattle.cb_scan.specs.rules.wide.Bodies.{Body, body_after, body_of, enumerators}
 use Rattle.cb_scan.specs.rules.wide.Bodies.{first_enumerator, first_kind, first_token}
@@ -28,20 +31,19 @@ use Rattle.cb_scan.specs.rules.wide.Words.{is_wide_name}
 use Rattle.cb_scan.proofs.WideBodies.{bodies_from, body_here}
 use Rattle.cb_scan.proofs.WideNames.{All, name_if, prototype_if}
 use Rattle.cb_scan.proofs.WithinLemmas.{all-append, all-drop, all-filter, all-split, all-take}
-use Rattle.cb_lsp.specs.Ranges.{IsNameOf}
-use Rattle.cb_lsp.proofs.NamedLists.{all-flat, all-made, and-first, each-flat, if-met, listed-has}
-use Rattle.cb_lsp.proofs.NamedLists.{or-has}
-use Rattle.cb_lsp.proofs.NamedParts.{part-role, prototype-role}
-use Rattle.cb_lsp.proofs.NamedTokens.{IsDefNamed}
+use Rattle.cb_scan.proofs.NamedLists.{all-flat, all-made, and-first, each-flat, if-met, listed-has}
+use Rattle.cb_scan.proofs.NamedLists.{or-has}
+use Rattle.cb_scan.proofs.NamedParts.{part-role, prototype-role}
+use Rattle.cb_scan.proofs.NamedTokens.{IsDefNamed}
 
 -- ---- what all tokens of a list have, the tokens of its parts have
-pub numbered-have : (P : _ → Type 0) (n : ℕ) (xs : List _) → AllByRecursion P xs
+pub numbered-have : (P : WideToken → Type 0) (n : ℕ) (xs : List WideToken) → AllByRecursion P xs
     → All P (numbered n xs)
 unfolding numbered
 numbered-have P n [] all = tt
 numbered-have P n (x ∷ xs) all = (all.0, numbered-have P (nesting_after x.token n) xs all.1)
 
-declarations-have : (P : _ → Type 0) (ends : List Numbered → ℕ → Bool) (fuel : ℕ) (xs : List _)
+declarations-have : (P : WideToken → Type 0) (ends : List Numbered → ℕ → Bool) (fuel : ℕ) (xs : List WideToken)
     → AllByRecursion P xs → AllByRecursion (All P) (declarations_from ends fuel xs)
 unfolding declarations_from
 declarations-have P ends zero xs all = tt
@@ -53,21 +55,21 @@ declarations-have P ends (suc fuel) (x ∷ xs) all =
       declarations-have P ends fuel (drop n (x ∷ xs)) (all-drop P n (x ∷ xs) all),
     )
 
-at_index : (P : _ → Type 0) (parts : List (List Numbered)) (i : ℕ) → AllByRecursion (All P) parts
+at_index : (P : WideToken → Type 0) (parts : List (List Numbered)) (i : ℕ) → AllByRecursion (All P) parts
     → All P (slice_index_or parts i [])
 at_index P [] zero all = tt
 at_index P [] (suc i) all = tt
 at_index P (part ∷ parts) zero all = all.0
 at_index P (part ∷ parts) (suc i) all = at_index P parts i all.1
 
-part-has : (P : _ → Type 0) (first : Bool) (parts : List (List Numbered)) (part : List Numbered)
+part-has : (P : WideToken → Type 0) (first : Bool) (parts : List (List Numbered)) (part : List Numbered)
     → All P part → AllByRecursion (λ (p : Part). All P p.tokens) (part_after first parts part)
 part-has P first parts part all =
     elim (list_any has_stray parts) as (λ b. AllByRecursion (λ (p : Part). All P p.tokens)
     (cond b [] (record { first = first; tokens = part; passed = flat_map (λ p. p) parts } ∷ [])))
     [ true ↦ tt | false ↦ (all, tt) ]
 
-naming-has : (P : _ → Type 0) (ds : List Numbered) → All P ds
+naming-has : (P : WideToken → Type 0) (ds : List Numbered) → All P ds
     → AllByRecursion (λ (p : Part). All P p.tokens) (naming_parts ds)
 naming-has P ds all =
     let parts = ended_parts ds in
@@ -78,13 +80,13 @@ naming-has P ds all =
     (λ i. part-has P (i == 0) (take (i + 1) parts) (slice_index_or parts i [])
     (at_index P parts i have)) (range_with_len 0 (length parts))
 
-pub placed-have : (P : _ → Type 0) (around : List ℕ) (xs : List _) → AllByRecursion P xs
+pub placed-have : (P : WideToken → Type 0) (around : List ℕ) (xs : List WideToken) → AllByRecursion P xs
     → AllByRecursion (λ (p : Placed). P p.item) (placed around xs)
 unfolding placed
 placed-have P around [] all = tt
 placed-have P around (x ∷ xs) all = (all.0, placed-have P (around_after x around) xs all.1)
 
-level-has : (P : _ → Type 0) (test : Placed → Bool) (ps : List Placed)
+level-has : (P : WideToken → Type 0) (test : Placed → Bool) (ps : List Placed)
     → AllByRecursion (λ (p : Placed). P p.item) ps
     → AllByRecursion P (map (λ (p : Placed). p.item) (filter test ps))
 level-has P test ps all =
@@ -112,9 +114,9 @@ module _ (text : List ℕ) where
       if-met (λ x. is_wide_name x.role ≡ true) (λ x. IsNameOf text x.token.span)
       (prototype_name p) (prototype_if _ p all) (prototype-role p)
 
-  if-named : (k : Kind) (local : Bool) (o : Option _) → let ds = def_if k local o in
-      MatchOption o (Unit {0}) (λ x. IsNameOf text x.token.span)
-      → AllByRecursion (IsDefNamed text) ds
+  if-named : (k : Kind) (local : Bool) (o : Option WideToken)
+      → MatchOption o (Unit {0}) (λ x. IsNameOf text x.token.span)
+      → AllByRecursion (IsDefNamed text) (def_if k local o)
   if-named k local o named =
       listed-has (λ x. IsNameOf text x.token.span) (IsDefNamed text) _ (λ x n. n) o [] named tt
 
@@ -163,9 +165,9 @@ module _ (text : List ℕ) where
       → AllByRecursion (λ t. IsNameOf text t.span) (cond b (x.item.token ∷ []) []))
       [ true ↦ λ is. (all.0 (and-first _ _ is), tt) | false ↦ λ _. tt ]) refl
 
-  enumerators-named : (P : _ → Type 0)
+  enumerators-named : (P : WideToken → Type 0)
       → ((xs : List Numbered) → All P xs → AllByRecursion (λ t. IsNameOf text t.span)
-      (first_enumerator xs)) → (level : List _) → AllByRecursion P level
+      (first_enumerator xs)) → (level : List WideToken) → AllByRecursion P level
       → AllByRecursion (λ t. IsNameOf text t.span) (enumerators level)
   enumerators-named P has level all =
       all-flat (All P) (λ t. IsNameOf text t.span) first_enumerator has
@@ -180,9 +182,9 @@ module _ (text : List ℕ) where
   abbrev pub IsPlacedSound : Placed → Type 0
   IsPlacedSound p = is_wide_name p.item.role ≡ true → IsNameOf text p.item.token.span
 
-  first-named : (xs : List _) → let first = first_token (names_first xs) in
-      AllByRecursion (λ x. is_wide_name x.role ≡ true → IsNameOf text x.token.span) xs
-      → MatchOption first (Unit {0}) (λ t. IsNameOf text t.span)
+  first-named : (xs : List WideToken)
+      → AllByRecursion (λ x. is_wide_name x.role ≡ true → IsNameOf text x.token.span) xs
+      → MatchOption (first_token (names_first xs)) (Unit {0}) (λ t. IsNameOf text t.span)
   first-named [] all = tt
   first-named (x ∷ xs) all =
       (elim (is_wide_name x.role) as (λ b. is_wide_name x.role ≡ b
@@ -193,9 +195,9 @@ module _ (text : List ℕ) where
           ≡ suc (prefix_len (λ y. is_wide_name y.role) xs)
       more = omega arith
 
-  body-named : (before : List _) (brace : Placed) → let bs = body_after brace before in
-      AllByRecursion (λ x. is_wide_name x.role ≡ true → IsNameOf text x.token.span) before
-      → AllByRecursion IsBodyNamed bs
+  body-named : (before : List WideToken) (brace : Placed)
+      → AllByRecursion (λ x. is_wide_name x.role ≡ true → IsNameOf text x.token.span) before
+      → AllByRecursion IsBodyNamed (body_after brace before)
   body-named before brace all =
       by_kind (first_kind (drop (length (names_first before)) before))
     where
@@ -204,9 +206,9 @@ module _ (text : List ℕ) where
       by_kind None = tt
       by_kind (Some k) = (first-named before all, tt)
 
-  pub bodies-named : (before : List _) (ps : List Placed) → let bs = bodies_from before ps in
-      AllByRecursion (λ x. is_wide_name x.role ≡ true → IsNameOf text x.token.span) before
-      → AllByRecursion IsPlacedSound ps → AllByRecursion IsBodyNamed bs
+  pub bodies-named : (before : List WideToken) (ps : List Placed)
+      → AllByRecursion (λ x. is_wide_name x.role ≡ true → IsNameOf text x.token.span) before
+      → AllByRecursion IsPlacedSound ps → AllByRecursion IsBodyNamed (bodies_from before ps)
   bodies-named before [] past all = tt
   bodies-named before (p ∷ ps) past all =
       all-append IsBodyNamed (body_here before p) (bodies_from (p.item ∷ before) ps)
@@ -245,7 +247,7 @@ module _ (text : List ℕ) where
         (file_declarations bs (file_level ps))
         (declarations-have _ _ (length (file_level ps)) (file_level ps) (level-has _ _ ps tokens))
 
-    pub code-named : (ranges : List _) → AllByRecursion IsBodyNamed bs
+    pub code-named : (ranges : List Range) → AllByRecursion IsBodyNamed bs
         → AllByRecursion (IsDefNamed text) (code_defs ranges ps bs)
     code-named ranges named =
         let types = flat_map typedef_of (file_parts bs ps) in

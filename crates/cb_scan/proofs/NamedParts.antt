@@ -17,8 +17,8 @@ use Rattle.cb_scan.specs.rules.wide.Prototypes.{declared_at, is_called, is_enclo
 use Rattle.cb_scan.specs.rules.wide.Prototypes.{prototype_in, prototype_name, tail_prototype}
 use Rattle.cb_scan.specs.rules.wide.Prototypes.{uncalled_prototype, wraps_parameters}
 use Rattle.cb_scan.specs.rules.wide.Words.{is_wide_name}
-use Rattle.cb_lsp.proofs.NamedLists.{all-reverse, and-first, and-second, each-flat, first-has}
-use Rattle.cb_lsp.proofs.NamedLists.{made-has, mapped-has, or-has, tested, unless-has}
+use Rattle.cb_scan.proofs.NamedLists.{all-reverse, and-first, and-second, each-flat, first-has}
+use Rattle.cb_scan.proofs.NamedLists.{made-has, mapped-has, or-has, tested, unless-has}
 
 -- ---- a called name
 inside-role : (xs : List Numbered)

@@ -1,5 +1,4 @@
--- The tokens of a text that are names by their role are names of it. The types of tokens and roles
--- are private to `cb_scan`: a `_` stands for them.
+-- The tokens of a text that are names by their role are names of it.
 use Rattle.std.proofs.Common.{◌≡◌, ◌∙◌, ◌-◌, ℕ, cond, sym, subst, arith, codes, refl, true, false}
 use Rattle.std.proofs.Common.{List, [], ◌∷◌, map, take, drop}
 use Rattle.std.specs.Prelude.{◌==◌, filter, not}
@@ -11,7 +10,8 @@ use Rattle.cb_scan.specs.declared.lex.piece.Class.{Class}
 use Rattle.cb_scan.specs.declared.lex.piece.Class.TheVariants as class
 use Rattle.cb_scan.specs.declared.lex.piece.Piece.{Piece}
 use Rattle.cb_scan.specs.declared.lex.piece.Span.{Span}
-use Rattle.cb_scan.specs.Definitions.{IsWithin}
+use Rattle.cb_scan.specs.declared.lex.token.Token.{Token}
+use Rattle.cb_scan.specs.Definitions.{IsNameOf, IsWithin}
 use Rattle.cb_scan.specs.Bytes.{apostrophe}
 use Rattle.cb_scan.specs.lex.Lexeme.{Lexeme, first_is, is_identifier}
 use Rattle.cb_scan.specs.lex.Pieces.{ArePiecesFrom, LiesIn}
@@ -25,8 +25,7 @@ use Rattle.cb_scan.specs.rules.wide.Words.{word_role}
 use Rattle.cb_scan.specs.steps.Cut.{pieces}
 use Rattle.cb_scan.proofs.PieceLists.{pieces-are, pieces-lie}
 use Rattle.cb_scan.proofs.WithinLemmas.{AllOfAll, all-filter, all-joined, all-split}
-use Rattle.cb_lsp.specs.Ranges.{IsNameOf}
-use Rattle.cb_lsp.proofs.NamedLists.{if-free}
+use Rattle.cb_scan.proofs.NamedLists.{if-free}
 
 -- ---- roles of words
 
@@ -131,7 +130,7 @@ module _ (text : List ℕ) where
   good (p ∷ ps) lie spelled = ((lie.0, spelled.0), good ps lie.1 spelled.1)
 
   -- the tokens of pieces, of logical lines and of the code
-  of_pieces : (Q : _ → Type 0) → ((p : Piece) → IsGood p → Q (token_of text p)) → (ps : List Piece)
+  of_pieces : (Q : Token → Type 0) → ((p : Piece) → IsGood p → Q (token_of text p)) → (ps : List Piece)
       → AllByRecursion IsGood ps → AllByRecursion Q (tokens text ps)
   of_pieces Q has [] all = tt
   of_pieces Q has (p ∷ ps) all =
@@ -140,19 +139,19 @@ module _ (text : List ℕ) where
       (filter (λ q. is_significant q.class) ps))))
       [ true ↦ (has p all.0, of_pieces Q has ps all.1) | false ↦ of_pieces Q has ps all.1 ]
 
-  of_lines : (Q : _ → Type 0) → ((p : Piece) → IsGood p → Q (token_of text p))
+  of_lines : (Q : Token → Type 0) → ((p : Piece) → IsGood p → Q (token_of text p))
       → (ls : List (List Piece)) → AllOfAll IsGood ls → AllOfAll Q (map (tokens text) ls)
   of_lines Q has [] all = tt
   of_lines Q has (l ∷ ls) all = (of_pieces Q has l all.0, of_lines Q has ls all.1)
 
-  lines-have : (Q : _ → Type 0) → ((p : Piece) → IsGood p → Q (token_of text p))
+  lines-have : (Q : Token → Type 0) → ((p : Piece) → IsGood p → Q (token_of text p))
       → AllOfAll Q (logical_lines text (pieces text))
   lines-have Q has =
       of_lines Q has (slice_split (λ p. is_newline p.class) (pieces text))
       (all-split IsGood (λ p. is_newline p.class) (pieces text)
       (good (pieces text) (pieces-lie text) (spelled-from 0 (pieces text) (pieces-are text))))
 
-  code-has : (Q : _ → Type 0) → ((p : Piece) → IsGood p → Q (token_of text p))
+  code-has : (Q : Token → Type 0) → ((p : Piece) → IsGood p → Q (token_of text p))
       → AllByRecursion Q (code text (pieces text))
   code-has Q has =
       all-joined Q _ (all-filter (AllByRecursion Q) (λ l. not (is_directive l))

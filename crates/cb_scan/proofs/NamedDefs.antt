@@ -6,9 +6,12 @@ use Rattle.std.specs.List.{AllByRecursion, flat_map, range_with_len}
 use Rattle.std.specs.Option.{MatchOption, option_or}
 use Rattle.std.proofs.lemmas.Bool.{true≢false}
 use Rattle.cb_scan.specs.declared.facts.Def.{Def}
+use Rattle.cb_scan.specs.declared.lex.token.Token.{Token}
 use Rattle.cb_scan.specs.declared.profile.Profile.{Profile}
 use Rattle.cb_scan.specs.declared.profile.Rules.{Rules}
 use Rattle.cb_scan.specs.declared.profile.Rules.TheVariants.{Prototypes, Standard, Wide}
+use Rattle.cb_scan.specs.declared.rules.wide.token.WideToken.{WideToken}
+use Rattle.cb_scan.specs.Definitions.{IsNameOf}
 use Rattle.cb_scan.specs.Order.{def_key}
 use Rattle.cb_scan.specs.Profiles.{all_definitions, definitions_by, facts_in, is_declaration, kept}
 use Rattle.cb_scan.specs.lex.Lexeme.{first_is}
@@ -41,29 +44,27 @@ use Rattle.cb_scan.proofs.WideRuns.{kept_all}
 use Rattle.cb_scan.proofs.WideWithin.{names_of_all}
 use Rattle.cb_scan.proofs.WithinLemmas.{AllOfAll, all-append, all-drop, all-filter, all-split}
 use Rattle.cb_scan.proofs.WithinLemmas.{all-take, called-among, old_among, signed_among}
-use Rattle.cb_lsp.specs.Ranges.{IsNameOf}
-use Rattle.cb_lsp.proofs.NamedLists.{all-flat, all-made, alone-has, each-made, front-has, if-met}
-use Rattle.cb_lsp.proofs.NamedLists.{or-has}
-use Rattle.cb_lsp.proofs.NamedStandard.{called-role, definitions-named, macros-named, old-role}
-use Rattle.cb_lsp.proofs.NamedTokens.{IsDefNamed, code-sound, code-wide}
-use Rattle.cb_lsp.proofs.NamedWide.{AreSound, IsBodyNamed, IsPlacedSound, bodies-named, code-named}
-use Rattle.cb_lsp.proofs.NamedWide.{numbered-have, placed-have, prototype-named}
+use Rattle.cb_scan.proofs.NamedLists.{all-flat, all-made, alone-has, each-made, front-has, if-met}
+use Rattle.cb_scan.proofs.NamedLists.{or-has}
+use Rattle.cb_scan.proofs.NamedStandard.{called-role, definitions-named, macros-named, old-role}
+use Rattle.cb_scan.proofs.NamedTokens.{IsDefNamed, code-sound, code-wide}
+use Rattle.cb_scan.proofs.NamedWide.{AreSound, IsBodyNamed, IsPlacedSound, bodies-named, code-named}
+use Rattle.cb_scan.proofs.NamedWide.{numbered-have, placed-have, prototype-named}
 
 -- ---- the tokens of heads
-plain-have : (P : _ → Type 0) (xs : List _) → let ts = plain xs in
-    AllByRecursion (λ x. P x.token) xs → AllByRecursion P ts
+plain-have : (P : Token → Type 0) (xs : List WideToken) → AllByRecursion (λ x. P x.token) xs
+    → AllByRecursion P (plain xs)
 plain-have P [] all = tt
 plain-have P (x ∷ xs) all = (all.0, plain-have P xs all.1)
 
-head-has : (P : _ → Type 0) (ts : List _) (xs : List _) (k : ℕ) → let h = wide_head ts xs k in
-    AllByRecursion P xs → AllByRecursion P h
+head-has : (P : WideToken → Type 0) (ts : List Token) (xs : List WideToken) (k : ℕ)
+    → AllByRecursion P xs → AllByRecursion P (wide_head ts xs k)
 head-has P ts xs k all =
     kept_all P 0 (drop (head_start ts k) (take k xs))
     (all-drop P (head_start ts k) (take k xs) (all-take P k xs all))
 
-segments-have : (P : _ → Type 0) (ts : List _) (xs : List _) (js : List ℕ)
-    → let ss = map (λ j. plain (wide_head ts xs j)) js in
-    AllByRecursion (λ x. P x.token) xs → AllOfAll P ss
+segments-have : (P : Token → Type 0) (ts : List Token) (xs : List WideToken) (js : List ℕ)
+    → AllByRecursion (λ x. P x.token) xs → AllOfAll P (map (λ j. plain (wide_head ts xs j)) js)
 segments-have P ts xs [] all = tt
 segments-have P ts xs (j ∷ js) all = (
   plain-have P (wide_head ts xs j) (head-has (λ x. P x.token) ts xs j all),
@@ -87,18 +88,18 @@ module _ (text : List ℕ) where
       (all-flat (AreSound text) (λ x. IsNameOf text x.token.span) (declared_by false)
       (declared-named false) parts all.1)
 
-  head-named : (h : List _) → let name = head_prototype h in
-      AllByRecursion (λ x. is_wide_name x.role ≡ true → IsNameOf text x.token.span) h
-      → MatchOption name (Unit {0}) (λ t. IsNameOf text t.span)
+  head-named : (h : List WideToken)
+      → AllByRecursion (λ x. is_wide_name x.role ≡ true → IsNameOf text x.token.span) h
+      → MatchOption (head_prototype h) (Unit {0}) (λ t. IsNameOf text t.span)
   head-named h all =
       front-has (λ t. IsNameOf text t.span) _ (declared_names (head_parts h))
       (names-named (head_parts h) (all-split _ (is_outer_byte 44) (numbered 0 h)
       (numbered-have _ 0 h all)))
 
-  name-named : (h : List _) → let name = wide_name h in
-      AllByRecursion (λ x. is_wide_name x.role ≡ true → IsNameOf text x.token.span) h
+  name-named : (h : List WideToken)
+      → AllByRecursion (λ x. is_wide_name x.role ≡ true → IsNameOf text x.token.span) h
       → AllByRecursion (λ x. is_name_token x.token.role ≡ true → IsNameOf text x.token.span) h
-      → MatchOption name (Unit {0}) (λ t. IsNameOf text t.span)
+      → MatchOption (wide_name h) (Unit {0}) (λ t. IsNameOf text t.span)
   name-named h wide usual =
       elim (may_define (plain h)) as (λ b. MatchOption
       (cond b (option_or (head_prototype h) (called_name (plain h))) None) (Unit {0})
@@ -111,11 +112,11 @@ module _ (text : List ℕ) where
         | false ↦ tt
       ]
 
-  signature-named : (h : List _) (ss : List (List _)) → let signature = signature_from h ss in
-      AllByRecursion (λ x. is_wide_name x.role ≡ true → IsNameOf text x.token.span) h
+  signature-named : (h : List WideToken) (ss : List (List Token))
+      → AllByRecursion (λ x. is_wide_name x.role ≡ true → IsNameOf text x.token.span) h
       → AllByRecursion (λ x. is_name_token x.token.role ≡ true → IsNameOf text x.token.span) h
       → AllOfAll (λ t. is_name_token t.role ≡ true → IsNameOf text t.span) ss
-      → MatchOption signature (Unit {0}) (λ s. IsNameOf text s.name.span)
+      → MatchOption (signature_from h ss) (Unit {0}) (λ s. IsNameOf text s.name.span)
   signature-named [] ss wide usual segments =
       if-met (λ s. is_name_token s.name.role ≡ true) (λ s. IsNameOf text s.name.span)
       (signature_of ss)
@@ -126,8 +127,8 @@ module _ (text : List ℕ) where
       (name-named (x ∷ xs) wide usual)
 
   -- ---- the tokens of the code for the wide rules
-  wide-tokens : let xs = wide_tokens text (code text (pieces text)) in
-      AllByRecursion (λ x. is_wide_name x.role ≡ true → IsNameOf text x.token.span) xs
+  wide-tokens : AllByRecursion (λ x. is_wide_name x.role ≡ true → IsNameOf text x.token.span)
+      (wide_tokens text (code text (pieces text)))
   unfolding first_is
   wide-tokens =
       let ts = code text (pieces text) in
@@ -135,8 +136,9 @@ module _ (text : List ℕ) where
       (λ k. at_any (λ t. is_wide_name (wide_role text t) ≡ true → IsNameOf text t.span) ts k
       (λ _ is. absurd (true≢false (sym is))) (code-wide text)) (range_with_len 0 (length ts))
 
-  usual-tokens : let xs = wide_tokens text (code text (pieces text)) in
-      AllByRecursion (λ x. is_name_token x.token.role ≡ true → IsNameOf text x.token.span) xs
+  usual-tokens :
+      AllByRecursion (λ x. is_name_token x.token.role ≡ true → IsNameOf text x.token.span)
+      (wide_tokens text (code text (pieces text)))
   usual-tokens =
       let ts = code text (pieces text) in
       each-made _ (wide_token text ts)

@@ -4,8 +4,9 @@ use Rattle.std.proofs.Common.{length, map, Option, Some, None}
 use Rattle.std.specs.Prelude.{◌&&◌, ◌==◌, not}
 use Rattle.std.specs.List.{AllByRecursion, range_with_len}
 use Rattle.std.specs.Option.{MatchOption, option_map_or, option_to_list}
-use Rattle.cb_scan.specs.Definitions.{definitions, definitions_from, function_def, macro_def}
-use Rattle.cb_scan.specs.Definitions.{structure_def, typedef_def}
+use Rattle.cb_scan.specs.declared.lex.token.Token.{Token}
+use Rattle.cb_scan.specs.Definitions.{IsNameOf, definitions, definitions_from, function_def}
+use Rattle.cb_scan.specs.Definitions.{macro_def, structure_def, typedef_def}
 use Rattle.cb_scan.specs.Order.{def_key}
 use Rattle.cb_scan.specs.lex.Tokens.{has_kind, is_mark, is_name_token, kind_is_define}
 use Rattle.cb_scan.specs.rules.Code.{code, directives, is_directive, logical_lines}
@@ -31,15 +32,14 @@ use Rattle.cb_scan.proofs.TypedefsWithin.{all_typedefs}
 use Rattle.cb_scan.proofs.WideWithin.{names_of_all}
 use Rattle.cb_scan.proofs.WithinLemmas.{all-append, all-filter, head_of_all, heads_of_all}
 use Rattle.cb_scan.proofs.WithinLemmas.{signed_among}
-use Rattle.cb_lsp.specs.Ranges.{IsNameOf}
-use Rattle.cb_lsp.proofs.NamedLists.{all-flat, all-made, all-met, alone-has, and-first, and-second}
-use Rattle.cb_lsp.proofs.NamedLists.{each-flat, listed-has, mapped-has}
-use Rattle.cb_lsp.proofs.NamedTokens.{IsDefNamed, code-sound, lines-sound}
+use Rattle.cb_scan.proofs.NamedLists.{all-flat, all-made, all-met, alone-has, and-first, and-second}
+use Rattle.cb_scan.proofs.NamedLists.{each-flat, listed-has, mapped-has}
+use Rattle.cb_scan.proofs.NamedTokens.{IsDefNamed, code-sound, lines-sound}
 
 -- ---- the tokens of names are names by their role
 
 -- functions
-pub called-role : (h : List _)
+pub called-role : (h : List Token)
     → MatchOption (called_name h) (Unit {0}) (λ t. is_name_token t.role ≡ true)
 unfolding called_name
 called-role [] = tt
@@ -53,18 +53,18 @@ called-role (t ∷ u ∷ h) =
       | false ↦ λ _. called-role (u ∷ h)
     ]) refl
 
-pub old-role : (ss : List (List _))
+pub old-role : (ss : List (List Token))
     → MatchOption (signature_of ss) (Unit {0}) (λ s. is_name_token s.name.role ≡ true)
 old-role ss = of_opening (nearest_opening ss)
   where
-    of_opening : (o : Option (List _))
+    of_opening : (o : Option (List Token))
         → MatchOption (option_map_or (λ s. signed s (called_name s)) o None) (Unit {0})
         (λ s. is_name_token s.name.role ≡ true)
     of_opening None = tt
     of_opening (Some s) =
         signed_among (λ t. is_name_token t.role ≡ true) s (called_name s) (called-role s)
 
-signature-role : (ts : List _) (k : ℕ)
+signature-role : (ts : List Token) (k : ℕ)
     → MatchOption (signature ts k) (Unit {0}) (λ s. is_name_token s.name.role ≡ true)
 signature-role ts k =
     elim (head_start ts k == k) as (λ x. MatchOption
@@ -80,7 +80,7 @@ signature-role ts k =
           ]
     ]
 
-function-role : (ts : List _) (k : ℕ)
+function-role : (ts : List Token) (k : ℕ)
     → AllByRecursion (λ t. is_name_token t.role ≡ true)
     (map (λ (f : Function). f.name) (function_at ts k))
 function-role ts k =
@@ -95,7 +95,7 @@ function-role ts k =
     by_cases false o p = tt
 
 -- macros
-with_arguments-role : (l : List _) → AllByRecursion (λ t. is_name_token t.role ≡ true)
+with_arguments-role : (l : List Token) → AllByRecursion (λ t. is_name_token t.role ≡ true)
     (map (λ (m : Macro). m.name) (macro_of l))
 with_arguments-role [] = tt
 with_arguments-role (h ∷ []) = tt
@@ -109,7 +109,7 @@ with_arguments-role (h ∷ o ∷ n ∷ p ∷ l) =
       | false ↦ λ _. tt
     ]) refl
 
-without_arguments-role : (l : List _)
+without_arguments-role : (l : List Token)
     → AllByRecursion (λ t. is_name_token t.role ≡ true) (plain_macro_of l)
 without_arguments-role [] = tt
 without_arguments-role (h ∷ []) = tt
@@ -123,7 +123,7 @@ without_arguments-role (h ∷ o ∷ n ∷ l) =
       | false ↦ λ _. tt
     ]) refl
 
-macro-role : (l : List _) → AllByRecursion (λ t. is_name_token t.role ≡ true) (macro_names_of l)
+macro-role : (l : List Token) → AllByRecursion (λ t. is_name_token t.role ≡ true) (macro_names_of l)
 macro-role l =
     all-append (λ t. is_name_token t.role ≡ true) (map (λ (m : Macro). m.name) (macro_of l))
     (plain_macro_of l) (with_arguments-role l) (without_arguments-role l)
@@ -157,8 +157,8 @@ pointer-role (x ∷ xs) =
       | false ↦ pointer-role xs
     ]
 
-last-has : (P : _ → Type 0) → ((x : Nested) → is_name_token x.token.role ≡ true → P x.token)
-    → (found : Option _) (xs : List Nested) → MatchOption found (Unit {0}) P
+last-has : (P : Token → Type 0) → ((x : Nested) → is_name_token x.token.role ≡ true → P x.token)
+    → (found : Option Token) (xs : List Nested) → MatchOption found (Unit {0}) P
     → MatchOption (last_name found xs) (Unit {0}) P
 unfolding last_name
 last-has P has found [] f = f
@@ -177,7 +177,7 @@ part-role part =
     (alone-has (λ t. is_name_token t.role ≡ true) (last_name None part)
     (last-has (λ t. is_name_token t.role ≡ true) (λ x is. is) None part tt))
 
-typedef-role : (ts : List _) (k : ℕ)
+typedef-role : (ts : List Token) (k : ℕ)
     → AllByRecursion (λ t. is_name_token t.role ≡ true) (typedef_at ts k)
 typedef-role ts k =
     elim (begins_typedef ts k) as (λ b. AllByRecursion (λ t. is_name_token t.role ≡ true) (cond b
@@ -197,7 +197,7 @@ typedef-role ts k =
         ]
 
 -- structures
-structure-role : (ts : List _) (k : ℕ) → AllByRecursion (λ (s : Structure).
+structure-role : (ts : List Token) (k : ℕ) → AllByRecursion (λ (s : Structure).
     is_name_token s.name.role ≡ true) (structure_at ts k)
 structure-role ts zero = tt
 structure-role ts (suc zero) = tt
@@ -216,12 +216,12 @@ structure-role ts (suc (suc k)) =
     ]) refl
 
 -- what all tokens of a directive have, the name of its macro has
-macro-named : (l : List _) → (P : _ → Type 0) → AllByRecursion P l
+macro-named : (l : List Token) → (P : Token → Type 0) → AllByRecursion P l
     → AllByRecursion P (macro_names_of l)
 macro-named l P all = all-append P (map (λ (m : Macro). m.name) (macro_of l)) (plain_macro_of l)
     (with_arguments l all) (without_arguments l all)
   where
-    with_arguments : (l : List _) → AllByRecursion P l
+    with_arguments : (l : List Token) → AllByRecursion P l
         → AllByRecursion P (map (λ (m : Macro). m.name) (macro_of l))
     with_arguments [] a = tt
     with_arguments (h ∷ []) a = tt
@@ -232,7 +232,7 @@ macro-named l P all = all-append P (map (λ (m : Macro). m.name) (macro_of l)) (
         (cond b (record { name = n; body = after_arguments l } ∷ []) [])))
         [ true ↦ (a.1.1.0, tt) | false ↦ tt ]
 
-    without_arguments : (l : List _) → AllByRecursion P l → AllByRecursion P (plain_macro_of l)
+    without_arguments : (l : List Token) → AllByRecursion P l → AllByRecursion P (plain_macro_of l)
     without_arguments [] a = tt
     without_arguments (h ∷ []) a = tt
     without_arguments (h ∷ o ∷ []) a = tt
