@@ -80,10 +80,10 @@ use cb_index::TagSpot;
 use cb_scan::{Facts, Source, Span};
 use cb_tags::{Sink, WriteFault};
 use cb_wire::{
-    Elements, Id, MOST_ELEMENTS, Part, Range, place_of_position, put_list_result, put_range_result,
-    put_result,
+    Elements, Id, MOST_ELEMENTS, Part, Range, list_in_memory, place_of_position, put_list_result,
+    put_range_result, put_result,
 };
-use std::alloc::{AllocError, Global};
+use std::alloc::Global;
 use std::io::Write;
 
 /// A file that is asked about, what scanning it gives, and what the client takes.
@@ -125,20 +125,8 @@ pub(crate) fn put_list<W: Write, I: Elements>(
     put_first(out, id, MOST_ELEMENTS, elements)
 }
 
-/// The elements of a list, each found once. Memory may be refused to them.
-fn gathered<I: Elements>(alloc: Global, elements: I) -> Result<Vec<I::Item>, AllocError>
-    ensures { IfOk result (λ list. map I.Item.text list.items ≡ I.texts elements) }
-{
-    let mut left = elements;
-    let mut list = Vec::new(alloc);
-    'elements: while let Some(one) = left.next() {
-        list.push(one)?;
-    }
-    Ok(list)
-}
-
-/// Writes a reply whose result is a list. Its elements are counted first and then written; so they
-/// are gathered, where there is memory for them, and else are found twice.
+/// Writes a reply whose result is a list. Its length stands before it; so the list is made in
+/// memory, and where that is refused its elements are found twice: counted, and then written.
 fn put_gathered<W: Write, I: Elements>(
     alloc: Global,
     out: &mut Sink<W>,
@@ -149,8 +137,9 @@ fn put_gathered<W: Write, I: Elements>(
         → Puts out.old out.new result
         (frame (value_text (result_reply (id_json id.entry) (list_of js)))) }
 {
-    match gathered(alloc, elements.again()) {
-        Ok(list) => put_list(out, id, list.as_slice()),
+    let tail = [Part::Raw(b"]")];
+    match list_in_memory(alloc, b"[", b",", &tail, MOST_ELEMENTS, elements.again()) {
+        Ok(list) => put_result(out, id, list.as_slice()),
         Err(_) => put_list(out, id, elements),
     }
 }

@@ -79,6 +79,13 @@ impl<W: Write> Sink<W> {
         }
     }
 
+    /// The writer.
+    pub fn into_inner(self) -> W
+        ensures { W.contents result ≡ self.bytes }
+    {
+        self.writer
+    }
+
     /// Whether the writer has failed.
     pub fn failed(&self) -> bool
         ensures { result ≡ self.now.failed }

@@ -8,6 +8,7 @@ ghost use Rattle.std.specs.Prelude.{
   ◌≤◌,
   ◌^◌,
   ℕ,
+  IfOk,
   List,
   [],
   MatchOption,
@@ -24,6 +25,7 @@ ghost use Rattle.cb_wire.specs.Texts.{frame, parts_text};
 use crate::reply::put_result_front;
 use crate::{Id, Part, parts_length, put_parts, put_result_end};
 use cb_tags::{Sink, WriteFault, put_text};
+use std::alloc::Global;
 use std::io::Write;
 
 /// The most elements that a list may have.
@@ -205,6 +207,24 @@ fn list_length<I: Elements>(head: &[u8], between: &[u8], tail: &[Part<'_>], elem
     ensures small { result < 2 ^ 127 }
 {
     head.len() as u128 + elements_length(between, elements) + parts_length(tail)
+}
+
+/// The text of a list: a text, the first of some elements with a separator between two, and parts.
+/// It is an error where a growth of memory was refused.
+pub fn list_in_memory<I: Elements>(
+    alloc: Global,
+    head: &[u8],
+    between: &[u8],
+    tail: &[Part<'_>],
+    most: usize,
+    elements: I,
+) -> Result<Vec<u8>, WriteFault>
+    ensures { IfOk result (λ text. text.items
+        ≡ list_text head.now between.now (parts_text tail.now) (take most (I.texts elements))) }
+{
+    let mut out = Sink::new(Vec::new(alloc));
+    put_list(&mut out, head, between, tail, First { elements, most })?;
+    Ok(out.into_inner())
 }
 
 /// Writes a reply whose result is a list: a text, the first of some elements with a separator

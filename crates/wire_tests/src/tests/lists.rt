@@ -2,7 +2,7 @@
 use cb_tags::{Sink, WriteFault, put_text};
 use cb_wire::{
     Completion, Element, Elements, Fold, Id, Location, MOST_ELEMENTS, Part, Position, Range, Root,
-    Symbol, TreeSymbol, part_length, parts_length, put_list_result, put_parts,
+    Symbol, TreeSymbol, list_in_memory, part_length, parts_length, put_list_result, put_parts,
 };
 use std::io::Write;
 use std::test::Fail;
@@ -103,6 +103,27 @@ fn locations_are_listed(rt: HostRuntime) -> Result<(), Fail> {
           Content-Length: 36\r\n\r\n{\"jsonrpc\":\"2.0\",\"id\":3,\"result\":[]}"
             .as_slice()
     );
+    Ok(())
+}
+
+#[test]
+fn a_list_is_made_in_memory(rt: HostRuntime) -> Result<(), Fail> {
+    let lines = [Line(b"a"), Line(b"bc"), Line(b"d")];
+    let tail = [Part::Raw(b"]")];
+    let two = list_in_memory(rt.alloc(), b"[", b", ", &tail, 2, lines.as_slice());
+    let all = list_in_memory(
+        rt.alloc(),
+        b"[",
+        b", ",
+        &tail,
+        MOST_ELEMENTS,
+        lines.as_slice(),
+    );
+    assert!(rt; two.is_ok() && all.is_ok());
+    if let (Ok(two), Ok(all)) = (two, all) {
+        assert_eq!(rt; two.as_slice(), b"[a, bc]".as_slice());
+        assert_eq!(rt; all.as_slice(), b"[a, bc, d]".as_slice());
+    }
     Ok(())
 }
 
