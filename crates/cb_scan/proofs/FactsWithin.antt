@@ -1,10 +1,9 @@
 -- What is found in a text lies in it, and its definitions are on lines of it.
-use Rattle.std.proofs.Common.{Bool, ltb-true, ◌≡◌, ◌≤◌, ◌<◌, ◌+◌, ◌-◌, ℕ, zero, suc, true, false, List}
+use Rattle.std.proofs.Common.{Bool, ltb-true, ◌≡◌, ◌≤◌, ◌<◌, ◌+◌, ◌-◌, ℕ, true, false, List}
 use Rattle.std.proofs.Common.{[], ◌∷◌, ◌++◌, Option, Some, None, refl, sym, subst, map, length, arith}
 use Rattle.std.specs.Prelude.{◌&&◌, cond, find, nat_lt, not}
-use Rattle.std.specs.List.{AllByRecursion, flat_map, range_with_len}
+use Rattle.std.specs.List.{AllByRecursion, flat_map}
 use Rattle.std.specs.Option.{MatchOption, option_map, option_map_or}
-use Rattle.std.proofs.lemmas.List.Concat.{flat_map-append}
 use Rattle.cb_scan.specs.declared.facts.Call.{Call}
 use Rattle.cb_scan.specs.declared.facts.Def.{Def}
 use Rattle.cb_scan.specs.declared.facts.Include.{Include}
@@ -17,7 +16,7 @@ use Rattle.cb_scan.specs.Definitions.{AreWithin, IsScopeWithin, IsTagWithin, IsW
 use Rattle.cb_scan.specs.Definitions.{function_def}
 use Rattle.cb_scan.specs.Definitions.{definitions, definitions_from, macro_def, structure_def}
 use Rattle.cb_scan.specs.Definitions.{typedef_def}
-use Rattle.cb_scan.specs.rules.Depth.{no_token, token_at}
+use Rattle.cb_scan.specs.rules.Depth.{no_token}
 use Rattle.cb_scan.specs.rules.Functions.{Function, function_at, functions}
 use Rattle.cb_scan.specs.Lines.{IsLineOf}
 use Rattle.cb_scan.specs.rules.Macros.{Macro, after_arguments, begin_arguments, defines_macro}
@@ -42,9 +41,9 @@ use Rattle.cb_scan.specs.steps.Quote.{is_closed}
 use Rattle.cb_scan.specs.steps.Cut.{pieces}
 use Rattle.cb_scan.specs.rules.Structures.{Structure, structures}
 use Rattle.cb_scan.specs.rules.Typedefs.{typedefs}
-use Rattle.cb_scan.specs.rules.Uses.{call_at, call_of, calls_among, calls_in, calls_of_function}
-use Rattle.cb_scan.specs.rules.Uses.{header_between, header_of, include_of, includes_with, is_call}
+use Rattle.cb_scan.specs.rules.Uses.{calls_in, header_between, header_of, include_of, includes_with}
 use Rattle.cb_scan.specs.rules.Uses.{macro_calls, use_of, used, uses_with}
+use Rattle.cb_scan.proofs.CallLists.{calls_of_all, calls_of_lines}
 use Rattle.cb_scan.proofs.MacroLines.{range_names}
 use Rattle.cb_scan.specs.rules.OldStyle.{semicolons_before}
 use Rattle.cb_scan.proofs.FunctionsRise.{all_implied, named_before}
@@ -57,7 +56,7 @@ use Rattle.cb_scan.proofs.WithinLemmas.{DefWithin, TokenWithin, all-append, all-
 use Rattle.cb_scan.proofs.WithinLemmas.{all-split, code-within, found_among, functions-lie, head_of_all}
 use Rattle.cb_scan.proofs.WithinLemmas.{heads_of_all, lines-within}
 use Rattle.cb_scan.proofs.StructureLemmas.{all_structures, structure_name}
-use Rattle.cb_scan.proofs.TypedefsWithin.{SpanWithin, at_any, all_typedefs}
+use Rattle.cb_scan.proofs.TypedefsWithin.{SpanWithin, all_typedefs}
 
 -- ---- order
 pub all_put : {X : Type 0} (key : X → List ℕ) (Q : X → Type 0) (x : X) (ys : List X) → Q x → AllByRecursion Q ys
@@ -79,7 +78,7 @@ all_made : {X Y : Type 0} (make : X → Y) (Q : Y → Type 0) → ((x : X) → Q
 all_made make Q holds [] = tt
 all_made make Q holds (x ∷ xs) = (holds x, all_made make Q holds xs)
 
--- ---- functions, macros and calls
+-- ---- macros
 module _ (P : Token → Type 0) where
   with_arguments : (l : List Token) → AllByRecursion P l → AllByRecursion P (map (λ (m : Macro). m.name) (macro_of l))
   with_arguments [] a = tt
@@ -107,73 +106,6 @@ module _ (P : Token → Type 0) where
       (all-append P (map (λ (m : Macro). m.name) (macro_of l)) (plain_macro_of l) (with_arguments l parts.0)
       (without_arguments l parts.0))
       (all_macro_names ls parts.1)
-
-module _ (S : Span → Type 0) where
-  calls_from_body : (ts : List Token) (caller : Span) (k n : ℕ) → S no_token.span → S caller
-      → AllByRecursion (λ (t : Token). S t.span) ts
-      → AllByRecursion (λ (c : Call). S c.callee × S c.caller) (flat_map (call_at ts caller) (range_with_len k n))
-  calls_from_body ts caller k zero none s a = tt
-  calls_from_body ts caller k (suc n) none s a =
-      all-append (λ (c : Call). S c.callee × S c.caller) (call_at ts caller k) _
-      (elim (is_call (token_at ts k) (token_at ts (suc k))) as (λ b. AllByRecursion
-      (λ (c : Call). S c.callee × S c.caller) (cond b (call_of caller (token_at ts k) ∷ []) []))
-      [ true ↦ ((at_any (λ t. S t.span) ts k (λ _. none) a, s), tt) | false ↦ tt ])
-      (calls_from_body ts caller (k + 1) n none s a)
-
-  calls_of_all : (ts : List Token) (fs : List Function) → S no_token.span
-      → AllByRecursion (λ (t : Token). S t.span) (map (λ (f : Function). f.name) fs)
-      → AllByRecursion (λ (t : Token). S t.span) ts
-      → AllByRecursion (λ (c : Call). S c.callee × S c.caller) (flat_map (calls_of_function ts) fs)
-  calls_of_all ts [] none names a = tt
-  calls_of_all ts (f ∷ fs) none names a =
-      all-append (λ (c : Call). S c.callee × S c.caller) _ _
-      (calls_from_body ts f.name.span f.body (f.end - f.body) none names.0 a) (calls_of_all ts fs none names.1 a)
-
-  among_calls : (caller : Span) (l : List Token) → S caller → AllByRecursion (λ (t : Token). S t.span) l
-      → AllByRecursion (λ (c : Call). S c.callee × S c.caller) (calls_among caller l)
-  unfolding calls_among
-  among_calls caller [] s a = tt
-  among_calls caller (t ∷ []) s a = tt
-  among_calls caller (t ∷ u ∷ l) s a =
-      elim (is_call t u) as (λ b. AllByRecursion (λ (c : Call). S c.callee × S c.caller)
-      (cond b (call_of caller t ∷ calls_among caller (u ∷ l)) (calls_among caller (u ∷ l)))) [
-        | true ↦ ((a.0, s), among_calls caller (u ∷ l) s a.1)
-        | false ↦ among_calls caller (u ∷ l) s a.1
-      ]
-
-  after_the_arguments : (l : List Token) → AllByRecursion (λ (t : Token). S t.span) l
-      → AllByRecursion (λ (t : Token). S t.span) (after_arguments l)
-  unfolding after_arguments
-  after_the_arguments [] a = tt
-  after_the_arguments (t ∷ l) a =
-      elim (is_mark 41 t.role) as (λ b. AllByRecursion (λ (t : Token). S t.span) (cond b l (after_arguments l)))
-      [ true ↦ a.1 | false ↦ after_the_arguments l a.1 ]
-
-  calls_of_line : (l : List Token) → AllByRecursion (λ (t : Token). S t.span) l
-      → AllByRecursion (λ (c : Call). S c.callee × S c.caller)
-      (flat_map (λ (m : Macro). calls_among m.name.span m.body) (macro_of l))
-  calls_of_line [] a = tt
-  calls_of_line (h ∷ []) a = tt
-  calls_of_line (h ∷ o ∷ []) a = tt
-  calls_of_line (h ∷ o ∷ n ∷ []) a = tt
-  calls_of_line (h ∷ o ∷ n ∷ p ∷ l) a =
-      elim (defines_macro o n p) as (λ b. AllByRecursion (λ (c : Call). S c.callee × S c.caller)
-      (flat_map (λ (m : Macro). calls_among m.name.span m.body)
-      (cond b (record { name = n; body = after_arguments l } ∷ []) []))) [
-        | true ↦ all-append (λ (c : Call). S c.callee × S c.caller) (calls_among n.span (after_arguments l)) []
-            (among_calls n.span (after_arguments l) a.1.1.0 (after_the_arguments l a.1.1.1.1)) tt
-        | false ↦ tt
-      ]
-
-  calls_of_lines : (ls : List (List Token)) → AllByRecursion (λ (t : Token). S t.span) (flat_map (λ l. l) ls)
-      → AllByRecursion (λ (c : Call). S c.callee × S c.caller)
-      (flat_map (λ (m : Macro). calls_among m.name.span m.body) (flat_map macro_of ls))
-  calls_of_lines [] a = tt
-  calls_of_lines (l ∷ ls) a =
-      let parts = all-prefix (λ (t : Token). S t.span) l (flat_map (λ l. l) ls) a in
-      subst (AllByRecursion (λ (c : Call). S c.callee × S c.caller))
-      (sym (flat_map-append (λ (m : Macro). calls_among m.name.span m.body) (macro_of l) (flat_map macro_of ls)))
-      (all-append (λ (c : Call). S c.callee × S c.caller) _ _ (calls_of_line l parts.0) (calls_of_lines ls parts.1))
 
 -- ---- scopes
 module _ (text : List ℕ) where
@@ -433,9 +365,11 @@ module _ (text : List ℕ) where
     calls_lie =
         all_in_order call_key (λ (c : Call). IsWithin text c.callee × IsWithin text c.caller) _
         (all-append (λ (c : Call). IsWithin text c.callee × IsWithin text c.caller) _ _
-        (calls_of_all (IsWithin text) (code text (pieces text)) fs origin name_spans
+        (calls_of_all (SpanWithin text) (IsWithin text) (λ c. IsWithin text c.callee × IsWithin text c.caller)
+        (λ t w. w) (λ caller t s w _. (w, s)) (code text (pieces text)) fs origin name_spans
         (spans_of (code text (pieces text)) code_tokens))
-        (calls_of_lines (IsWithin text) (directives text (pieces text)) (spans_of _ directive_tokens)))
+        (calls_of_lines (SpanWithin text) (IsWithin text) (λ c. IsWithin text c.callee × IsWithin text c.caller)
+        (λ t w. w) (λ caller t s w _. (w, s)) (directives text (pieces text)) (spans_of _ directive_tokens)))
 
     includes_lie : AllByRecursion (λ (i : Include). IsWithin text i.header × IsScopeWithin text i.scope)
         (includes_with (scope_among text (pieces text) fs) text (pieces text))
@@ -444,7 +378,7 @@ module _ (text : List ℕ) where
         (headers_within (directives text (pieces text)) (spans_of _ directive_tokens))
 
 -- what is kept has the property that all has
-all_kept : {X : Type 0} (P : X → Type 0) (b : Bool) (xs : List X) → AllByRecursion P xs
+pub all_kept : {X : Type 0} (P : X → Type 0) (b : Bool) (xs : List X) → AllByRecursion P xs
     → AllByRecursion P (kept b xs)
 all_kept P true xs all = all
 all_kept P false xs all = tt

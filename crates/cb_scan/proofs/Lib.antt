@@ -2,10 +2,12 @@ pub mod BlankRun
 pub mod Blocks
 pub mod Bodies
 pub mod BodyLemmas
+pub mod CallLists
 pub mod ClosedStrings
 pub mod CodeLines
 pub mod Cuts
 pub mod DeclarationLemmas
+pub mod FactLines
 pub mod FactsFew
 pub mod FactsWithin
 pub mod FeedLanes

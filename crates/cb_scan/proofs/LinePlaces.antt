@@ -1,7 +1,7 @@
 -- Where lines begin, and on which line a byte is, by the table of line starts.
 use Rattle.std.proofs.Common.{◌≡◌, ◌∙◌, ℕ, zero, suc, ◌+◌, ◌-◌, ◌<◌, ◌≤◌, ◌==◌, Bool, true, false, cond}
 use Rattle.std.proofs.Common.{List, [], ◌∷◌, length, take, drop, get_or, refl, ⊎_elim}
-use Rattle.std.proofs.Common.{sym, ap, arith, length-drop, length-take-le}
+use Rattle.std.proofs.Common.{sym, ap, subst, arith, length-drop, length-take-le}
 use Rattle.std.proofs.Common.{take-add, take_all}
 use Rattle.std.specs.Prelude.{nat_le, sum_by, count_by}
 use Rattle.std.specs.List.Sorted.{IsPartitionPoint, IsPartitionedBy}
@@ -67,6 +67,17 @@ line_of-few text place =
       sum_by-take-le (λ b. cond (b == 10) 1 0) text place,
       count_by-le-length (λ b. b == 10) text,
     )
+
+-- lines rise with places
+pub line_of-rises : (text : List ℕ) (a b : ℕ) → a ≤ b → line_of text a ≤ line_of text b
+line_of-rises text a b order =
+    let past : b ≡ a + (b - a) = omega (arith, order) in
+    subst (λ n. line_of text a ≤ line_of text n) (sym past)
+    (subst (λ t. line_of text a ≤ feeds t + 1) (sym (take-add a (b - a) text))
+    (omega (
+      arith,
+      sum_by-append (λ c. cond (c == 10) 1 0) (take a text) (take (b - a) (drop a text)),
+    )))
 
 -- no line feed is before the end of the first line
 first_line : (text : List ℕ) (place : ℕ) → place < line_len text → feeds (take place text) ≡ 0

@@ -67,29 +67,39 @@ module _ {X : Type 0} (P : X → Type 0) where
 abbrev pub TokenWithin : List ℕ → Token → Type 0
 TokenWithin text t = (t.span.start < t.span.end) × (t.span.end ≤ length text) × IsLineOf text t.line
 
-tokens-within : (text : List ℕ) (ps : List Piece) → AllByRecursion (LiesIn text) ps
-    → AllByRecursion (TokenWithin text) (tokens text ps)
-tokens-within text [] a = tt
-tokens-within text (p ∷ ps) a =
-    elim (is_significant p.class) as (λ b. AllByRecursion (TokenWithin text)
-    (map (token_of text) (cond b (p ∷ filter (λ q. is_significant q.class) ps)
-    (filter (λ q. is_significant q.class) ps)))) [
-      | true ↦ ((a.0.0, a.0.1, line-within text p.span.start (omega (arith, a.0.0, a.0.1))), tokens-within text ps a.1)
-      | false ↦ tokens-within text ps a.1
-    ]
+token-within : (text : List ℕ) (p : Piece) → LiesIn text p → TokenWithin text (token_of text p)
+token-within text p a = (a.0, a.1, line-within text p.span.start (omega (arith, a.0, a.1)))
+
+-- what holds of the tokens of pieces that have L holds of all tokens of such pieces
+module _
+    (text : List ℕ) (L : Piece → Type 0) (Q : Token → Type 0)
+    (token_is : (p : Piece) → L p → Q (token_of text p)) where
+  tokens-have : (ps : List Piece) → AllByRecursion L ps → AllByRecursion Q (tokens text ps)
+  tokens-have [] a = tt
+  tokens-have (p ∷ ps) a =
+      elim (is_significant p.class) as (λ b. AllByRecursion Q
+      (map (token_of text) (cond b (p ∷ filter (λ q. is_significant q.class) ps)
+      (filter (λ q. is_significant q.class) ps))))
+      [ true ↦ (token_is p a.0, tokens-have ps a.1) | false ↦ tokens-have ps a.1 ]
+
+  pub lines-have : (ls : List (List Piece)) → AllOfAll L ls → AllOfAll Q (map (tokens text) ls)
+  lines-have [] a = tt
+  lines-have (l ∷ ls) a = (tokens-have l a.0, lines-have ls a.1)
+
+  -- and of the tokens of the code
+  pub code-has : (ps : List Piece) → AllByRecursion L ps → AllByRecursion Q (code text ps)
+  code-has ps a =
+      all-joined Q _ (all-filter (AllByRecursion Q) (λ l. not (is_directive l)) (logical_lines text ps)
+      (lines-have _ (all-split L (λ p. is_newline p.class) ps a)))
 
 pub lines-within : (text : List ℕ) (ls : List (List Piece)) → AllOfAll (LiesIn text) ls
     → AllOfAll (TokenWithin text) (map (tokens text) ls)
-lines-within text [] a = tt
-lines-within text (l ∷ ls) a = (tokens-within text l a.0, lines-within text ls a.1)
+lines-within text = lines-have text (LiesIn text) (TokenWithin text) (token-within text)
 
 -- the code of pieces that lie in the text
 pub code-within : (text : List ℕ) (ps : List Piece) → AllByRecursion (LiesIn text) ps
     → AllByRecursion (TokenWithin text) (code text ps)
-code-within text ps a =
-    all-joined (TokenWithin text) _
-    (all-filter (AllByRecursion (TokenWithin text)) (λ l. not (is_directive l)) (logical_lines text ps)
-    (lines-within text _ (all-split (LiesIn text) (λ p. is_newline p.class) ps a)))
+code-within text = code-has text (LiesIn text) (TokenWithin text) (token-within text)
 
 -- the first called name of some tokens is one of them
 pub called-among : (P : Token → Type 0) (h : List Token) → AllByRecursion P h → MatchOption (called_name h) (Unit {0}) P

@@ -2,6 +2,7 @@
 -- Macros, uses, includes, ranges and scopes have the same definitions for all rules, over the
 -- functions that these find.
 use Rattle.std.specs.Prelude.{◌≡◌, ℕ, Bool, true, false, not, filter, List, [], ◌++◌, ◌||◌, None}
+use Rattle.cb_scan.specs.declared.facts.Call.{Call}
 use Rattle.cb_scan.specs.declared.facts.Def.{Def}
 use Rattle.cb_scan.specs.declared.facts.Include.{Include}
 use Rattle.cb_scan.specs.declared.facts.Kind.{Kind}
@@ -20,6 +21,7 @@ use Rattle.cb_scan.specs.rules.Scope.{name_around, ranges_of, scope_among}
 use Rattle.cb_scan.specs.rules.Uses.{calls_in, includes_with, macro_calls, uses_with}
 use Rattle.cb_scan.specs.rules.wide.Kinds.{functions_of, wide_found}
 use Rattle.cb_scan.specs.Definitions.{definitions_from}
+use Rattle.cb_scan.specs.Lines.{line_of}
 use Rattle.cb_scan.specs.Order.{call_key, def_key, in_order}
 use Rattle.cb_scan.specs.TextFacts.{TextFacts}
 use Rattle.cb_scan.specs.steps.Cut.{pieces}
@@ -135,3 +137,10 @@ abbrev pub IsBesideFunctions : List ℕ → List Piece → Def → Type 0
 IsBesideFunctions text ps d =
     is_object d.kind ≡ true
     → name_around (ranges_of text ps (functions_of text ps)) d.name.start ≡ None
+
+-- a use, and a call, is on the line of its name
+abbrev pub IsUseOnItsLine : List ℕ → Use → Type 0
+IsUseOnItsLine text u = u.line ≡ line_of text u.name.start
+
+abbrev pub IsCallOnItsLine : List ℕ → Call → Type 0
+IsCallOnItsLine text c = c.line ≡ line_of text c.callee.start

@@ -18,6 +18,8 @@ ghost use Rattle.cb_scan.specs.Profiles.{
   include_alone,
   use_alone,
   IsBesideFunctions,
+  IsCallOnItsLine,
+  IsUseOnItsLine,
 };
 ghost use Rattle.cb_scan.specs.steps.Cut.{pieces};
 ghost use Rattle.cb_scan.specs.steps.Quote.{is_closed};
@@ -76,4 +78,12 @@ pub fn objects_beside_functions()
 pub fn names_stand_in_text()
     ensures { (profile : Profile) (text : List ℕ)
         → AllByRecursion (λ (d : Def). IsNameOf text d.name) (facts_in profile text).defs }
+{}
+
+/// Uses and calls tell the lines of their names: each is on the line of the first byte of its name.
+pub fn facts_on_lines()
+    ensures uses { (profile : Profile) (text : List ℕ)
+        → AllByRecursion (IsUseOnItsLine text) (facts_in profile text).uses }
+    ensures calls { (profile : Profile) (text : List ℕ)
+        → AllByRecursion (IsCallOnItsLine text) (facts_in profile text).calls }
 {}
