@@ -17,6 +17,7 @@ pub mod InOrderLemmas
 pub mod IncludeLemmas
 pub mod IndexLemmas
 pub mod ItemLemmas
+pub mod ItemLines
 pub mod KeptLemmas
 pub mod LayLemmas
 pub mod ListedLemmas

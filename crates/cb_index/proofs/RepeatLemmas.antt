@@ -91,12 +91,12 @@ module _ (sort : FactKind) (text : Scanned) where
   function i = function_of sort (fact_at sort [] text i)
 
   -- ---- items of one row
-  record OneRow (i j : ℕ) : Type 0 where
-    same_line : line j ≡ line i
+  pub record OneRow (i j : ℕ) : Type 0 where
+    pub same_line : line j ≡ line i
     same_function : function j ≡ function i
     same_key : key i ≡ key j
 
-  one_row : (i j : ℕ) → row i j ≡ true → OneRow i j
+  pub one_row : (i j : ℕ) → row i j ≡ true → OneRow i j
   one_row i j is =
       let parts = both (same_row sort (fact_at sort [] text j) (fact_at sort [] text i))
       (have_one_key sort text i j) is in

@@ -59,13 +59,13 @@ StandsBefore start rank t i j =
     (start t i < start t j) ⊎ ((start t i ≡ start t j) × (rank t i ≤ rank t j))
 
 module _ {X : Type 0} (R : X → X → Type 0) where
-  one_at : (x : X) (xs : List X) → AllByRecursion (R x) xs → (k : ℕ) (d : X) → k < length xs
+  pub one_at : (x : X) (xs : List X) → AllByRecursion (R x) xs → (k : ℕ) (d : X) → k < length xs
       → R x (get_or xs k d)
   one_at x [] all k d below = absurd (omega (arith, below))
   one_at x (y ∷ ys) all zero d below = all.0
   one_at x (y ∷ ys) all (suc k) d below = one_at x ys all.1 k d (omega (arith, below))
 
-  two_at : (xs : List X) → AreOrdered R xs → (i j : ℕ) (d : X) → i < j → j < length xs
+  pub two_at : (xs : List X) → AreOrdered R xs → (i j : ℕ) (d : X) → i < j → j < length xs
       → R (get_or xs i d) (get_or xs j d)
   unfolding AreOrdered
   two_at [] all i j d upward below = absurd (omega (arith, below))
@@ -74,7 +74,7 @@ module _ {X : Type 0} (R : X → X → Type 0) where
   two_at (x ∷ xs) all (suc i) (suc j) d upward below =
       two_at xs all.1 i j d (omega (arith, upward)) (omega (arith, below))
 
-nowhere : Span
+pub nowhere : Span
 nowhere = record { start = 0; end = 0 }
 
 or_same : (m n : ℕ) → m ≤ n → (m < n) ⊎ ((m ≡ n) × (0 ≤ 0))

@@ -2,7 +2,7 @@
 -- a call among the calls, from 0.
 use Rattle.std.specs.Prelude.{ℕ, suc, ◌-◌, Bool, not, List, Option, length, filter, slice_get}
 use Rattle.std.specs.List.{list_any, range_with_len}
-use Rattle.std.specs.Option.{option_map}
+use Rattle.std.specs.Option.{option_map, option_map_or}
 use Rattle.std.specs.Str.{bytes_eq}
 use Rattle.cb_scan.specs.declared.facts.Call.{Call}
 use Rattle.cb_scan.specs.declared.facts.Use.{Use}
@@ -27,6 +27,18 @@ abbrev pub item_span : FactKind → TextFacts → ℕ → Option Span
 item_span Uses = use_span
 item_span Callees = callee_span
 item_span Callers = caller_span
+
+-- the line of a use, and of a call; 0 where it is not there
+abbrev pub use_line : TextFacts → ℕ → ℕ
+use_line f item = option_map_or (λ (u : Use). u.line) (slice_get f.uses item) 0
+
+abbrev pub call_line : TextFacts → ℕ → ℕ
+call_line f item = option_map_or (λ (c : Call). c.line) (slice_get f.calls item) 0
+
+abbrev pub item_line : FactKind → TextFacts → ℕ → ℕ
+item_line Uses = use_line
+item_line Callees = call_line
+item_line Callers = call_line
 
 -- the key of an item
 abbrev pub item_key : FactKind → Scanned → ℕ → List ℕ

@@ -6,6 +6,7 @@ ghost use Rattle.cb_index.specs.Items.{
   is_first,
   item_count,
   item_key,
+  item_line,
   item_span,
   later,
 };
@@ -45,6 +46,22 @@ pub(crate) fn item_span(sort: FactKind, facts: &Facts, item: u32) -> Option<Span
         FactKind::Callers => match facts.calls().get(item as usize) {
             Some(found) => Some(found.caller),
             None => None,
+        },
+    }
+}
+
+/// The line of an item; 0 where it is not there.
+pub(crate) fn item_line(sort: FactKind, facts: &Facts, item: u32) -> u32
+    ensures { result ≡ item_line sort facts.now item }
+{
+    match sort {
+        FactKind::Uses => match facts.uses().get(item as usize) {
+            Some(found) => found.line,
+            None => 0,
+        },
+        FactKind::Callees | FactKind::Callers => match facts.calls().get(item as usize) {
+            Some(found) => found.line,
+            None => 0,
         },
     }
 }

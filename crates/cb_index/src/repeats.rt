@@ -42,7 +42,7 @@ ghost use Rattle.cb_index.specs.steps.Repeating.{
 use crate::archive::Version;
 use crate::bytes::bytes_at;
 use crate::entry::Entry;
-use crate::items::{Chain, item_span};
+use crate::items::{Chain, item_line, item_span};
 use crate::kind::FactKind;
 use crate::rows::{FactSpot, fact_in};
 use crate::scanned::ScannedSource;
@@ -232,13 +232,18 @@ fn have_row(sort: FactKind, version: &Version, a: u32, b: u32) -> bool
     have_one_row(sort, version.text(), a, b)
 }
 
-/// Whether an item is a repeat, by a search.
+/// Whether an item is a repeat, by a search back to the last item of a line before its own: items
+/// go by line.
 fn search_repeat(sort: FactKind, version: &Version, item: u32) -> bool
     ensures { result ≡ is_repeat sort version.now item }
 {
     let mut before = item;
+    let line = item_line(sort, version.facts(), item);
     while before > 0 {
         before -= 1;
+        if item_line(sort, version.facts(), before) < line {
+            return false;
+        }
         if have_row(sort, version, item, before) {
             return true;
         }

@@ -1,0 +1,139 @@
+-- The items of a text go by line, so a search for a repeat stops at an item of a line before.
+use Rattle.std.proofs.Common.{◌≡◌, ◌∙◌, ◌<◌, ◌≤◌, ℕ, zero, suc, Bool, false, length}
+use Rattle.std.proofs.Common.{[], get_or, refl, sym, ap, arith, ⊎_elim}
+use Rattle.std.specs.Prelude.{◌||◌, Option, Some, None, slice_get}
+use Rattle.std.specs.Option.{option_map_or}
+use Rattle.std.proofs.lemmas.Bool.{cases_Bool, cases_lt}
+use Rattle.std.proofs.lemmas.Option.{slice_get-get_or, slice_get_past}
+use Rattle.cb_scan.specs.Lines.{line_of}
+use Rattle.cb_scan.specs.Profiles.{IsCallOnItsLine, IsUseOnItsLine}
+use Rattle.cb_scan.specs.declared.facts.Call.{Call}
+use Rattle.cb_scan.specs.declared.facts.Use.{Use}
+use Rattle.cb_scan.proofs.FactLines.{calls_on_lines, uses_on_lines}
+use Rattle.cb_scan.proofs.InOrder.{facts_in_order}
+use Rattle.cb_scan.proofs.LinePlaces.{line_of-rises}
+use Rattle.cb_index.specs.Items.{call_line, item_count, item_line, use_line}
+use Rattle.cb_index.specs.Repeats.{any_below, have_one_row}
+use Rattle.cb_index.specs.Scanned.{Scanned, facts_of}
+use Rattle.cb_index.specs.declared.kind.FactKind.{FactKind}
+use Rattle.cb_index.specs.declared.kind.FactKind.TheVariants.{Uses, Callees, Callers}
+use Rattle.cb_index.specs.steps.Found.{fact_at, fact_of_call, fact_of_use}
+use Rattle.cb_index.proofs.CompactLemmas.{all_at}
+use Rattle.cb_index.proofs.RepeatLemmas.{one_row}
+use Rattle.cb_index.proofs.RowsAscendLemmas.{nowhere, two_at}
+
+-- none of the numbers below one passes a test
+none_below : (p : ℕ → Bool) (n : ℕ) → ((i : ℕ) → i < n → p i ≡ false) → false ≡ any_below p n
+unfolding any_below
+none_below p zero none = refl
+none_below p (suc n) none =
+    none_below p n (λ i below. none i (omega (arith, below)))
+    ∙ ap (λ b. b || any_below p n) (sym (none n (omega arith)))
+
+module _ (text : Scanned) (i j : ℕ) (upward : i < j) where
+  uses_rise : j < length (facts_of text).uses
+      → use_line (facts_of text) i ≤ use_line (facts_of text) j
+  uses_rise below =
+      let uses = (facts_of text).uses in
+      let d : Use = record { name = nowhere; line = 0; scope = None } in
+      let within : i < length uses = omega (arith, upward, below) in
+      let line : Option Use → ℕ = λ o. option_map_or (λ (u : Use). u.line) o 0 in
+      let lined = uses_on_lines text.profile text.bytes in
+      let s : use_line (facts_of text) i ≡ line_of text.bytes (get_or uses i d).name.start =
+      ap line (slice_get-get_or uses i d within)
+      ∙ all_at (IsUseOnItsLine text.bytes) uses i d within lined in
+      let t : use_line (facts_of text) j ≡ line_of text.bytes (get_or uses j d).name.start =
+      ap line (slice_get-get_or uses j d below)
+      ∙ all_at (IsUseOnItsLine text.bytes) uses j d below lined in
+      let up =
+      two_at (λ (u v : Use). u.name.start ≤ v.name.start) uses
+      (facts_in_order text.profile text.bytes).uses i j d upward below in
+      omega (
+        arith,
+        s,
+        t,
+        line_of-rises text.bytes (get_or uses i d).name.start (get_or uses j d).name.start up,
+      )
+
+  calls_rise : j < length (facts_of text).calls
+      → call_line (facts_of text) i ≤ call_line (facts_of text) j
+  calls_rise below =
+      let calls = (facts_of text).calls in
+      let d : Call = record { callee = nowhere; line = 0; caller = nowhere } in
+      let within : i < length calls = omega (arith, upward, below) in
+      let line : Option Call → ℕ = λ o. option_map_or (λ (c : Call). c.line) o 0 in
+      let lined = calls_on_lines text.profile text.bytes in
+      let s : call_line (facts_of text) i ≡ line_of text.bytes (get_or calls i d).callee.start =
+      ap line (slice_get-get_or calls i d within)
+      ∙ all_at (IsCallOnItsLine text.bytes) calls i d within lined in
+      let t : call_line (facts_of text) j ≡ line_of text.bytes (get_or calls j d).callee.start =
+      ap line (slice_get-get_or calls j d below)
+      ∙ all_at (IsCallOnItsLine text.bytes) calls j d below lined in
+      let up =
+      two_at (λ (c e : Call). c.callee.start ≤ e.callee.start) calls
+      (facts_in_order text.profile text.bytes).calls i j d upward below in
+      omega (
+        arith,
+        s,
+        t,
+        line_of-rises text.bytes (get_or calls i d).callee.start (get_or calls j d).callee.start up,
+      )
+
+items_rise : (sort : FactKind) (text : Scanned) (i j : ℕ) → i < j → j < item_count sort text
+    → item_line sort (facts_of text) i ≤ item_line sort (facts_of text) j
+items_rise Uses text i j upward below = uses_rise text i j upward below
+items_rise Callees text i j upward below = calls_rise text i j upward below
+items_rise Callers text i j upward below = calls_rise text i j upward below
+
+-- an item that is not there has no line
+past_line : (sort : FactKind) (text : Scanned) (i : ℕ) → item_count sort text ≤ i
+    → item_line sort (facts_of text) i ≡ 0
+past_line Uses text i past =
+    ap (λ o. option_map_or (λ (u : Use). u.line) o 0) (slice_get_past (facts_of text).uses i past)
+past_line Callees text i past =
+    ap (λ o. option_map_or (λ (c : Call). c.line) o 0) (slice_get_past (facts_of text).calls i past)
+past_line Callers text i past =
+    ap (λ o. option_map_or (λ (c : Call). c.line) o 0) (slice_get_past (facts_of text).calls i past)
+
+-- the line of a fact is that of its item
+fact_line : (sort : FactKind) (text : Scanned) (i : ℕ)
+    → (fact_at sort [] text i).line ≡ item_line sort (facts_of text) i
+fact_line Uses text i =
+    elim (slice_get (facts_of text).uses i) as (λ o. (fact_of_use [] text.bytes o).line
+    ≡ option_map_or (λ (u : Use). u.line) o 0) [ None ↦ refl | Some u ↦ refl ]
+fact_line Callees text i =
+    elim (slice_get (facts_of text).calls i) as (λ o. (fact_of_call [] text.bytes o).line
+    ≡ option_map_or (λ (c : Call). c.line) o 0) [ None ↦ refl | Some c ↦ refl ]
+fact_line Callers text i =
+    elim (slice_get (facts_of text).calls i) as (λ o. (fact_of_call [] text.bytes o).line
+    ≡ option_map_or (λ (c : Call). c.line) o 0) [ None ↦ refl | Some c ↦ refl ]
+
+-- no item up to one of a line before has the row of an item
+pub any_stopped : (sort : FactKind) (text : Scanned) (item n before : ℕ) → n ≡ suc before → n ≤ item
+    → item_line sort (facts_of text) before < item_line sort (facts_of text) item
+    → false ≡ any_below (have_one_row sort text item) n
+any_stopped sort text item n before is low less =
+    none_below (have_one_row sort text item) n (λ i below. ⊎_elim
+    (λ same. absurd (omega (
+      arith,
+      less,
+      up_to i (omega (arith, below, is)),
+      fact_line sort text i,
+      fact_line sort text item,
+      (one_row sort text item i same).same_line,
+    )))
+    (λ other. other)
+    (cases_Bool (have_one_row sort text item i)))
+  where
+    there : before < item_count sort text
+    there = ⊎_elim (λ (within : item < item_count sort text). omega (arith, within, is, low))
+        (λ past. absurd (omega (arith, less, past_line sort text item past)))
+        (cases_lt item (item_count sort text))
+
+    up_to : (i : ℕ) → i ≤ before
+        → item_line sort (facts_of text) i ≤ item_line sort (facts_of text) before
+    up_to i low = ⊎_elim (λ (under : i < before). items_rise sort text i before under there)
+        (λ (same : before ≤ i).
+        let one : i ≡ before = omega (arith, same, low) in
+        omega (arith, ap (item_line sort (facts_of text)) one))
+        (cases_lt i before)
