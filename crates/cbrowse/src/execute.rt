@@ -27,11 +27,13 @@ ghost use Rattle.cbrowse.specs.Program.{
 };
 ghost use Rattle.cb_session.specs.Writing.{Puts};
 
+mod crowded;
 mod files;
 mod finish;
 mod list;
 mod needs;
 
+use crate::execute::crowded::wants_order;
 use crate::execute::files::{Folder, TagsFile, make_file, read_operands};
 use crate::execute::finish::{Finish, bounds_of, conclude, files_of, most_line_bytes};
 use crate::execute::list::take_list;
@@ -109,7 +111,9 @@ fn write_rows<W: Write>(field: Field, pattern: &[u8], desk: &mut Desk, out: &mut
     ensures { WritesText (flat_map row_line (answer desk.old.timeline.present field pattern.now))
         out.old out.new result }
 {
-    desk.settle_for(field, pattern);
+    if wants_order(field, pattern, desk) {
+        desk.settle(field);
+    }
     match put_answer(out, desk.rows(field, pattern)) {
         Ok(()) => {}
         Err(fault) => return Ended::Fault(fault),
