@@ -39,8 +39,10 @@ int main(void) {
 	return add(1, 2) / TWICE(3);
 }
 """
+MANY_CALLS = b"int f(int n) { %s}\n" % b"".join(b"g%d(n); " % k for k in range(33))
 FILES = {
     "a.c": A_C,
+    "many.c": MANY_CALLS,
     "m.c": b"int Mb(void) {\n}\n",
     "n.c": b"int a = -x;\n",
     "a.txt": A_C,
@@ -311,6 +313,12 @@ ROWS = [
     ),
     Row(["find", "8", "a.h", "a.c"], b'a.c <global> 1 #include "a.h"\n'),
     Row(["find", "1", "none", "a.c"]),
+    # more on one line than is searched for
+    Row(
+        ["find", "2", "f", "many.c"],
+        b"".join(b"many.c g%d 1 %s" % (k, MANY_CALLS) for k in range(33)),
+    ),
+    Row(["find", "0", "n", "many.c"], b"many.c f 1 " + MANY_CALLS),
     # the number is judged first, then the pattern, then the files
     *(
         refused(["find", num, pattern, "none.c"], NO_FIELD, 2)
