@@ -17,6 +17,11 @@ the processor to guess wrong. Its cache fetches nothing ahead, and its table of 
 so a real processor misses and errs less. What large pages gain is what the processor waits for
 addresses of memory to be looked up.
 
+Memory is told apart: what a session has resident at most until it is ready, and what it holds on
+the heap, by the functions that took it, as `valgrind --tool=massif` has them: those that took one
+part in 200 or more of it. Most of what `grow_amortized` took is room for the indexes, which becomes
+resident only when they are put in order.
+
 It takes ten minutes. Counts do not depend on what else runs on the machine; times do.
 """
 
@@ -33,7 +38,7 @@ from typing import NamedTuple
 
 from measure import MOST_FILES, c_files, installed, keep_to_one_core, options, words_given
 
-PARTS = "scan", "start", "tags", "first", "rows", "find"
+PARTS = "scan", "start", "tags", "first", "rows", "find", "memory"
 RUNS = 3
 EVERY = 8  # of the files that are counted
 OFTEN = 15  # answers beside one, which takes less than a start does by chance more or less
@@ -41,6 +46,8 @@ LARGE = {"GLIBC_TUNABLES": "glibc.malloc.hugetlb=1"}
 PATIENCE = 1200
 USED_NAMES = 50  # those that stand most often in the files
 NAME = re.compile(rb"[A-Za-z_]\w+")
+# What took memory in a report of massif: under the sum of all and the allocator, so two deep.
+TOOK = re.compile(r"^  n\d+: (\d+) 0x[0-9A-F]+: ([^\s<]+?)(?:::<| )", re.MULTILINE)
 COUNTS = {
     "instructions": r"I\s+refs:\s+([\d,]+)",
     "misses": r"D1\s+misses:\s+([\d,]+)",
@@ -180,6 +187,40 @@ def rows(bench):
 def find(bench):
     for field, pattern in ("0", "main"), ("1", "main"), ("4", "zzqq"):
         bench.put(f"find {field}, the whole process", Work(["find", field, pattern]), None, 1)
+
+
+def held(words, folder):
+    """The bytes that a run holds on the heap at most, and the places that took them."""
+    with tempfile.NamedTemporaryFile() as log:
+        asked = ["valgrind", "--tool=massif", "--threshold=0.1", "--detailed-freq=1"]
+        subprocess.run(
+            asked + [f"--massif-out-file={log.name}", "--"] + words,
+            cwd=folder,
+            stdin=subprocess.DEVNULL,
+            stdout=subprocess.DEVNULL,
+            stderr=subprocess.DEVNULL,
+            check=True,
+            timeout=PATIENCE,
+        )
+        shots = pathlib.Path(log.name).read_text().split("snapshot=")[1:]
+    size = re.compile(r"mem_heap_B=(\d+)")
+    most = max(shots, key=lambda it: int(size.search(it)[1]))
+    return int(size.search(most)[1]), [(int(n), name) for n, name in TOOK.findall(most)]
+
+
+def memory(bench):
+    words = bench.words(Work(["line"]), bench.all)
+    process = subprocess.Popen(
+        words, cwd=bench.folder, stdin=subprocess.DEVNULL, stdout=subprocess.DEVNULL
+    )
+    resident = os.wait4(process.pid, 0)[2].ru_maxrss * 1024
+    heap, places = held(words, bench.folder)
+    told = [(resident, "resident"), (heap, "on the heap")]
+    large = [place for place in places if place[0] * 200 > heap]
+    told += [(took, "  " + name) for took, name in sorted(large, reverse=True)]
+    for took, name in told:
+        part = took / sum(bench.sizes.values())
+        print(f"{name:<48}{took / 1e6:>8.1f} MB   {part:.3f} bytes a byte", flush=True)
 
 
 def most_used(folder, names):
