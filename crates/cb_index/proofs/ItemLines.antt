@@ -19,7 +19,7 @@ use Rattle.cb_index.specs.declared.kind.FactKind.{FactKind}
 use Rattle.cb_index.specs.declared.kind.FactKind.TheVariants.{Uses, Callees, Callers}
 use Rattle.cb_index.specs.steps.Found.{fact_at, fact_of_call, fact_of_use}
 use Rattle.cb_index.proofs.CompactLemmas.{all_at}
-use Rattle.cb_index.proofs.RepeatLemmas.{one_row}
+use Rattle.cb_index.proofs.RepeatLemmas.{one_line}
 use Rattle.cb_index.proofs.RowsAscendLemmas.{nowhere, two_at}
 
 -- none of the numbers below one passes a test
@@ -96,7 +96,7 @@ past_line Callers text i past =
     ap (λ o. option_map_or (λ (c : Call). c.line) o 0) (slice_get_past (facts_of text).calls i past)
 
 -- the line of a fact is that of its item
-fact_line : (sort : FactKind) (text : Scanned) (i : ℕ)
+pub fact_line : (sort : FactKind) (text : Scanned) (i : ℕ)
     → (fact_at sort [] text i).line ≡ item_line sort (facts_of text) i
 fact_line Uses text i =
     elim (slice_get (facts_of text).uses i) as (λ o. (fact_of_use [] text.bytes o).line
@@ -120,7 +120,7 @@ any_stopped sort text item n before is low less =
       up_to i (omega (arith, below, is)),
       fact_line sort text i,
       fact_line sort text item,
-      (one_row sort text item i same).same_line,
+      one_line sort text item i same,
     )))
     (λ other. other)
     (cases_Bool (have_one_row sort text item i)))

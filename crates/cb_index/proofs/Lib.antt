@@ -39,7 +39,6 @@ pub mod ShownListLemmas
 pub mod SortLemmas
 pub mod SortedLemmas
 pub mod SpreadLemmas
-pub mod TableLemmas
 pub mod TextLemmas
 pub mod TotalLemmas
 pub mod WordOrder

@@ -1,8 +1,8 @@
 -- What a version keeps so that items of one key are found without a search.
-use Rattle.std.specs.Prelude.{ℕ, Bool, ◌≡◌, ◌⊎◌, List, [], ◌∷◌, map}
+use Rattle.std.specs.Prelude.{ℕ, ◌≡◌, ◌⊎◌, List, [], ◌∷◌, map}
 use Rattle.std.specs.List.{range_with_len}
 use Rattle.cb_index.specs.Items.{is_first, item_count, later}
-use Rattle.cb_index.specs.Repeats.{AreRepeats}
+use Rattle.cb_index.specs.Repeats.{is_repeat}
 use Rattle.cb_index.specs.Scanned.{Scanned}
 use Rattle.cb_index.specs.declared.links.Link.{Link}
 use Rattle.cb_index.specs.declared.kind.FactKind.{FactKind}
@@ -13,10 +13,14 @@ abbrev pub first_or_none : List ℕ → ℕ
 first_or_none [] = 0
 first_or_none (item ∷ items) = item
 
--- the link of an item: the next item of its key, and whether none before it has that key
+-- the link of an item: the next item of its key, whether none before it has that key, and whether
+-- one before it has that key and its row
 abbrev pub link_of : FactKind → Scanned → ℕ → Link
-link_of sort text item =
-    record { next = first_or_none (later sort text item); first = is_first sort text item }
+link_of sort text item = record {
+  next = first_or_none (later sort text item);
+  first = is_first sort text item;
+  repeat = is_repeat sort text item;
+}
 
 -- the links of all items
 unfoldable pub links_of : FactKind → Scanned → List Link
@@ -26,15 +30,11 @@ links_of sort text = map (link_of sort text) (range_with_len 0 (item_count sort 
 abbrev pub AreLinks : FactKind → Scanned → List Link → Type 0
 AreLinks sort text links = (links ≡ []) ⊎ (links ≡ links_of sort text)
 
--- the links of uses, of calls by the called name, and of calls by the name that calls, and which of
--- these are repeats
+-- the links of uses, of calls by the called name, and of calls by the name that calls
 pub record Linked : Type 0 where
   pub uses : List Link
   pub callees : List Link
   pub callers : List Link
-  pub use_repeats : List Bool
-  pub callee_repeats : List Bool
-  pub caller_repeats : List Bool
 
 -- those of a sort
 abbrev pub links_for : FactKind → Linked → List Link
@@ -42,21 +42,9 @@ links_for Uses l = l.uses
 links_for Callees l = l.callees
 links_for Callers l = l.callers
 
-abbrev pub repeats_for : FactKind → Linked → List Bool
-repeats_for Uses l = l.use_repeats
-repeats_for Callees l = l.callee_repeats
-repeats_for Callers l = l.caller_repeats
-
 -- no links are laid
 abbrev pub nothing_laid : Linked
-nothing_laid = record {
-  uses = [];
-  callees = [];
-  callers = [];
-  use_repeats = [];
-  callee_repeats = [];
-  caller_repeats = [];
-}
+nothing_laid = record { uses = []; callees = []; callers = [] }
 
 -- other links of a sort
 abbrev pub with_links : FactKind → List Link → Linked → Linked
@@ -64,17 +52,8 @@ with_links Uses links l = record l { uses = links }
 with_links Callees links l = record l { callees = links }
 with_links Callers links l = record l { callers = links }
 
--- other repeats of a sort
-abbrev pub with_repeats : FactKind → List Bool → Linked → Linked
-with_repeats Uses repeats l = record l { use_repeats = repeats }
-with_repeats Callees repeats l = record l { callee_repeats = repeats }
-with_repeats Callers repeats l = record l { caller_repeats = repeats }
-
--- of each sort the links of all items of a text are laid, or none, and so are the repeats
+-- of each sort the links of all items of a text are laid, or none
 pub record AreLaid (text : Scanned) (l : Linked) : Type 0 where
   pub uses : AreLinks Uses text l.uses
   pub callees : AreLinks Callees text l.callees
   pub callers : AreLinks Callers text l.callers
-  pub use_repeats : AreRepeats Uses text l.use_repeats
-  pub callee_repeats : AreRepeats Callees text l.callee_repeats
-  pub caller_repeats : AreRepeats Callers text l.caller_repeats

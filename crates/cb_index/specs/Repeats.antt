@@ -1,8 +1,7 @@
 -- Items whose row is that of an earlier item.
-use Rattle.std.specs.Prelude.{ℕ, zero, suc, ◌≡◌, ◌⊎◌, Bool, false, ◌&&◌, ◌||◌, List, [], map}
-use Rattle.std.specs.List.{range_with_len}
+use Rattle.std.specs.Prelude.{ℕ, zero, suc, Bool, false, ◌&&◌, ◌||◌, []}
 use Rattle.cb_index.specs.Counts.{same_row}
-use Rattle.cb_index.specs.Items.{have_one_key, item_count}
+use Rattle.cb_index.specs.Items.{have_one_key}
 use Rattle.cb_index.specs.steps.Found.{fact_at}
 use Rattle.cb_index.specs.Scanned.{Scanned}
 use Rattle.cb_index.specs.declared.kind.FactKind.{FactKind}
@@ -20,11 +19,3 @@ have_one_row sort text i j =
 -- whether an item before an item has its key and its row
 abbrev pub is_repeat : FactKind → Scanned → ℕ → Bool
 is_repeat sort text item = any_below (have_one_row sort text item) item
-
--- the same of all items
-unfoldable pub repeats_of : FactKind → Scanned → List Bool
-repeats_of sort text = map (is_repeat sort text) (range_with_len 0 (item_count sort text))
-
--- these tell of all items whether they are repeats, or of none
-abbrev pub AreRepeats : FactKind → Scanned → List Bool → Type 0
-AreRepeats sort text repeats = (repeats ≡ []) ⊎ (repeats ≡ repeats_of sort text)

@@ -16,5 +16,4 @@ pub mod Runs
 pub mod Searched
 pub mod ShownIn
 pub mod Spread
-pub mod Table
 pub mod ToCome

@@ -23,14 +23,12 @@ ghost use Rattle.std.specs.List.{AllByRecursion, swap_remove};
 ghost use Rattle.cb_scan.specs.Profiles.{facts_in};
 ghost use Rattle.cb_index.specs.Archived.{AreBytes, name_of, text_at, text_of};
 ghost use Rattle.cb_index.specs.Links.{link_of, nothing_laid};
-ghost use Rattle.cb_index.specs.Repeats.{is_repeat};
 ghost use Rattle.cb_index.specs.Scanned.{facts_of};
-ghost use Rattle.cb_index.specs.steps.Laying.{AreSorted, item_entries};
 
 use crate::bytes::read_bytes;
-use crate::entry::Entry;
-use crate::items::item_count;
+use crate::entry::Shown;
 use crate::kind::FactKind;
+use crate::laid::Mention;
 use crate::links::{Link, Links};
 use crate::memory::OutOfMemory;
 use crate::place::Place;
@@ -119,50 +117,14 @@ impl Version {
         }
     }
 
-    /// Whether an item is a repeat, if that is laid.
-    pub(crate) fn repeat(&self, sort: FactKind, item: u32) -> Option<bool>
-        ensures { IfSome result (λ repeat. repeat ≡ is_repeat sort self.now item) }
+    /// Lays its links of a sort, if none are laid, with a list as scratch; none where there is too
+    /// little room.
+    fn lay(&mut self, sort: FactKind, scratch: &mut Vec<Mention>)
+        ensures { self.new ≡ self.old }
     {
-        match self.links.repeats(sort).get(item as usize) {
-            Some(repeat) => Some(*repeat),
-            None => None,
+        if self.links.of(sort).is_empty() {
+            self.links.lay(sort, &self.text, scratch);
         }
-    }
-
-    /// Finds the repeats of a sort by a table of the entries of all items, if there is room.
-    pub(crate) fn find_repeats(&mut self, sort: FactKind, entries: &mut [Entry])
-        requires { entries.old ≡ item_entries sort self.old 0 }
-        ensures { self.new ≡ self.old }
-    {
-        self.links.find_repeats(sort, &self.text, entries);
-    }
-
-    /// Whether its links of a sort are not laid, and there is room for them.
-    pub(crate) fn wants_links(&self, sort: FactKind) -> bool {
-        let count = item_count(sort, self);
-        count > 0 && self.links.wants(sort, count)
-    }
-
-    /// Whether the repeats of a sort are not found yet.
-    pub(crate) fn wants_repeats(&self, sort: FactKind) -> bool {
-        self.links.repeats(sort).is_empty()
-    }
-
-    /// Lays the links of a sort by a table of the entries of all items; false, and none are laid,
-    /// where the table is too crowded or where there is too little room.
-    pub(crate) fn lay_by_table(&mut self, sort: FactKind, entries: &mut [Entry]) -> bool
-        requires { entries.old ≡ item_entries sort self.old 0 }
-        ensures { self.new ≡ self.old }
-    {
-        self.links.lay_by_table(sort, &self.text, entries)
-    }
-
-    /// Lays the links of a sort by the entries of all items, in order, if there is room.
-    pub(crate) fn lay_links(&mut self, sort: FactKind, entries: &[Entry])
-        requires { AreSorted sort self.old entries.now }
-        ensures { self.new ≡ self.old }
-    {
-        self.links.lay(sort, &self.text, entries);
     }
 }
 
@@ -344,39 +306,23 @@ impl Archive {
         self.versions[version as usize].facts()
     }
 
-    /// Lays links of a version by a table of the entries of all items; false, and none are laid,
-    /// where the table is too crowded or where there is too little room.
-    pub(crate) fn lay_by_table(
-        &mut self,
-        version: u32,
-        sort: FactKind,
-        entries: &mut [Entry],
-    ) -> bool
-        requires there { version < length self.old.texts }
-        requires entries { entries.old
-            ≡ item_entries sort (text_of self.old version) 0 }
+    /// Lays links of a version, if it is there and none are laid, with a list as scratch.
+    fn lay(&mut self, version: u32, sort: FactKind, scratch: &mut Vec<Mention>)
         ensures { self.new ≡ self.old }
     {
-        self.versions[version as usize].lay_by_table(sort, entries)
+        if (version as usize) < self.versions.len() {
+            self.versions[version as usize].lay(sort, scratch);
+        }
     }
 
-    /// Lays links of a version by the entries of all items, in order, if there is room.
-    pub(crate) fn lay_links(&mut self, version: u32, sort: FactKind, entries: &[Entry])
-        requires there { version < length self.old.texts }
-        requires entries { AreSorted sort (text_of self.old version) entries.now }
+    /// Lays links of versions, if none are laid, with a list as scratch. It takes no memory: where
+    /// there is too little room, none are laid.
+    pub(crate) fn lay_each(&mut self, shown: &[Shown], sort: FactKind, scratch: &mut Vec<Mention>)
         ensures { self.new ≡ self.old }
     {
-        self.versions[version as usize].lay_links(sort, entries);
-    }
-
-    /// Finds the repeats of a version by a table of the entries of all items, if there is room.
-    pub(crate) fn find_repeats(&mut self, version: u32, sort: FactKind, entries: &mut [Entry])
-        requires there { version < length self.old.texts }
-        requires entries { entries.old
-            ≡ item_entries sort (text_of self.old version) 0 }
-        ensures { self.new ≡ self.old }
-    {
-        self.versions[version as usize].find_repeats(sort, entries);
+        for one in shown {
+            self.lay(one.version, sort, scratch);
+        }
     }
 
     /// Notes where a version stands in the list of what is shown.

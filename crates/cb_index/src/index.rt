@@ -39,6 +39,7 @@ use crate::archive::Archive;
 use crate::asked::Asked;
 use crate::entry::{Entry, Shown};
 use crate::kind::{FactKind, IndexKind};
+use crate::laid::Mention;
 use crate::listed::place_of;
 use crate::memory::OutOfMemory;
 use crate::names::Names;
@@ -176,8 +177,8 @@ impl Index {
     }
 
     /// Puts what is pending in order among the entries that are held, in the room that is there.
-    /// It takes no memory.
-    pub(crate) fn flush(&mut self, archive: &mut Archive)
+    /// With a list as scratch it lays the links of their versions first. It takes no memory.
+    pub(crate) fn flush(&mut self, archive: &mut Archive, scratch: &mut Vec<Mention>)
         requires order { self.old.held
             ≡ in_order (sort_key (keyer_of self.old.kind) archive.old) self.old.held }
         requires room { length self.old.held
@@ -190,8 +191,7 @@ impl Index {
         ensures itself { StaysItself self.old self.new }
     {
         if let IndexKind::Facts(kind) = self.kind {
-            self.postings
-                .lay_each(kind, archive, self.pending.as_slice());
+            archive.lay_each(self.pending.as_slice(), kind, scratch);
         }
         self.postings
             .put_each(self.kind, archive, self.pending.as_slice());

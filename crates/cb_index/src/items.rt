@@ -16,18 +16,27 @@ ghost use Rattle.cb_index.specs.steps.Spread.{items_from};
 use crate::archive::Version;
 use crate::bytes::bytes_at;
 use crate::kind::FactKind;
+use crate::scanned::ScannedSource;
 use cb_scan::{Facts, Span};
+
+/// How many items a text has.
+pub(crate) fn count_in(sort: FactKind, text: &ScannedSource) -> usize
+    ensures value { result ≡ item_count sort text.now }
+    ensures few { result < 2 ^ 32 }
+{
+    match sort {
+        FactKind::Uses => text.facts().uses().len(),
+        FactKind::Callees => text.facts().calls().len(),
+        FactKind::Callers => text.facts().calls().len(),
+    }
+}
 
 /// How many items a version has.
 pub(crate) fn item_count(sort: FactKind, version: &Version) -> usize
     ensures value { result ≡ item_count sort version.now }
     ensures few { result < 2 ^ 32 }
 {
-    match sort {
-        FactKind::Uses => version.facts().uses().len(),
-        FactKind::Callees => version.facts().calls().len(),
-        FactKind::Callers => version.facts().calls().len(),
-    }
+    count_in(sort, version.text())
 }
 
 /// The name of a use, the called name of a call or the name that calls, if it is there.

@@ -1,5 +1,5 @@
-//! Laying the links of a version: by a table, or by sorting its items by key, where each is linked
-//! to the one that follows it if that has its key.
+//! Laying the links of a text. Its items are sorted by key, so that those of one key stand side by
+//! side in their order, and then by row.
 ghost use Rattle.std.specs.Prelude.{
   ◌≡◌,
   ◌⊎◌,
@@ -7,226 +7,378 @@ ghost use Rattle.std.specs.Prelude.{
   ◌≤◌,
   ◌<◌,
   ◌++◌,
+  [],
   true,
   length,
   vec_len,
   vec_capacity,
 };
+ghost use Rattle.std.specs.Cmp.Lexicographic.{slice_cmp};
 ghost use Rattle.std.specs.List.{AllByRecursion};
+ghost use Rattle.std.specs.List.Sorted.{IsPermutation};
+ghost use Rattle.std.specs.Ordering.{nat_cmp};
+ghost use Rattle.cb_scan.specs.Order.{in_order};
+ghost use Rattle.cb_index.specs.Bytes.{cut};
 ghost use Rattle.cb_index.specs.Items.{item_count};
 ghost use Rattle.cb_index.specs.Links.{links_of};
 ghost use Rattle.cb_index.specs.steps.Laying.{
-  AreListed,
-  AreSorted,
-  entries_match,
-  item_entries,
-  link_to,
-  next_item,
+  are_alike,
+  bytes_rank,
+  column_rest,
+  hash,
+  have_one_rest,
+  item_or_none,
+  key_end,
+  key_rest,
+  link_by,
+  mention_of,
+  mentions_of,
+  next_mention,
+  numbers,
+  rank,
+  row_rest,
+  span_or_none,
   with_each,
 };
-ghost use Rattle.cb_index.specs.declared.entry.Entry.{Entry};
+ghost use Rattle.cb_index.specs.declared.laid.Mention.{Mention};
 
-use crate::archive::{Archive, Version};
-use crate::bytes::bytes_at;
-use crate::entry::Entry;
-use crate::items::{item_count, item_key, item_span};
-use crate::kind::{FactKind, IndexKind};
+use crate::bytes::cut;
+use crate::items::{count_in, item_line, item_span};
+use crate::kind::FactKind;
 use crate::links::Link;
+use crate::repeats::{function_in, have_one_function, have_one_span};
 use crate::scanned::ScannedSource;
-use crate::sort::sort;
-use cb_scan::key_prefix;
+use cb_scan::{Span, key_prefix};
+use std::cmp::Ordering;
 
-/// Whether two entries of items have one key. Their prefixes are compared first.
-pub(crate) fn entries_match(sort: FactKind, text: &ScannedSource, a: Entry, b: Entry) -> bool
-    ensures { result ≡ entries_match sort text.now a b }
-{
-    a.prefix == b.prefix
-        && bytes_at(
-            text.source().bytes(),
-            item_span(sort, text.facts(), a.number),
-        ) == bytes_at(
-            text.source().bytes(),
-            item_span(sort, text.facts(), b.number),
-        )
+/// What items have in common that are linked.
+#[derive(Clone, Copy)]
+pub(crate) enum Likeness {
+    /// One key.
+    Key,
+    /// One key and one row.
+    Row,
 }
 
-/// The item of the entry that follows an entry, if it has its key.
-fn next_item(sort: FactKind, text: &ScannedSource, entry: Entry, behind: &[Entry]) -> Option<u32>
-    ensures { result ≡ next_item sort text.now entry behind.now }
+/// An item, with what it is sorted by.
+#[derive(Clone, Copy, Debug)]
+pub(crate) struct Mention {
+    /// A hash of its key.
+    pub hash: u64,
+    /// Where its key stands in the text.
+    pub span: Span,
+    pub line: u32,
+    /// Its own number.
+    pub number: u32,
+}
+
+/// An odd number whose bits look like chance: 2^64 over the golden ratio.
+const SPREAD: u64 = 0x9e37_79b9_7f4a_7c15;
+
+/// The last eight bytes of a key as a number, where it is longer than that.
+#[tactic(auto, unfolding(crate::specs::steps::Laying::key_end))]
+fn key_end(key: &[u8]) -> u64
+    ensures { result ≡ key_end key.now }
+{
+    if key.len() > 8 {
+        key_prefix(&key[key.len() - 8..])
+    } else {
+        0
+    }
+}
+
+/// A key as a number of 32 bits. Where it differs in any bit of its first bytes, of its last ones
+/// or of its length, many of these bits differ.
+#[tactic(auto, unfolding(crate::specs::steps::Laying::hash))]
+fn hash(key: &[u8]) -> u64
+    ensures { result ≡ hash key.now }
+{
+    let whole = key_prefix(key)
+        .wrapping_add(key_end(key).wrapping_mul(SPREAD))
+        .wrapping_add(key.len() as u64);
+    let folded = whole.wrapping_add(whole >> 32);
+    folded.wrapping_mul(SPREAD) >> 32
+}
+
+/// A span, or one without bytes.
+fn span_or_none(span: Option<Span>) -> Span
+    ensures { result ≡ span_or_none span }
+{
+    match span {
+        Some(span) => span,
+        None => Span { start: 0, end: 0 },
+    }
+}
+
+/// The mention of an item.
+fn mention_of(sort: FactKind, text: &ScannedSource, item: u32) -> Mention
+    ensures { result ≡ mention_of sort text.now item }
+{
+    let span = span_or_none(item_span(sort, text.facts(), item));
+    Mention {
+        hash: hash(cut(text.source().bytes(), span)),
+        span,
+        line: item_line(sort, text.facts(), item),
+        number: item,
+    }
+}
+
+fn numbers(mention: Mention) -> [u32; 4]
+    ensures { result ≡ numbers mention }
+{
+    [
+        mention.number,
+        mention.span.start,
+        mention.span.end,
+        mention.line,
+    ]
+}
+
+/// The order of two mentions of one key on one line, in whose function columns are names with one
+/// hash.
+fn compare_columns(sort: FactKind, text: &ScannedSource, a: Mention, b: Mention) -> Ordering
+    ensures { result
+        ≡ slice_cmp nat_cmp (column_rest sort text.now a) (column_rest sort text.now b) }
+{
+    match function_in(sort, text, a.number).cmp(function_in(sort, text, b.number)) {
+        Ordering::Less => Ordering::Less,
+        Ordering::Greater => Ordering::Greater,
+        Ordering::Equal => numbers(a).cmp(&numbers(b)),
+    }
+}
+
+/// The order of two mentions of one key on one line, by the names in the function column. These may
+/// be long, and around many items: their bytes are looked at only where they have one hash and
+/// stand at two places of the text.
+fn compare_functions(sort: FactKind, text: &ScannedSource, a: Mention, b: Mention) -> Ordering
+    ensures { result ≡ slice_cmp nat_cmp (row_rest sort text.now a) (row_rest sort text.now b) }
+{
+    if have_one_span(sort, text.facts(), a.number, b.number) {
+        return numbers(a).cmp(&numbers(b));
+    }
+    let one = hash(function_in(sort, text, a.number));
+    match one.cmp(&hash(function_in(sort, text, b.number))) {
+        Ordering::Less => Ordering::Less,
+        Ordering::Greater => Ordering::Greater,
+        Ordering::Equal => compare_columns(sort, text, a, b),
+    }
+}
+
+/// The order of two mentions of one key.
+fn compare_rest(
+    by: Likeness,
+    sort: FactKind,
+    text: &ScannedSource,
+    a: Mention,
+    b: Mention,
+) -> Ordering
+    ensures { result
+        ≡ slice_cmp nat_cmp (key_rest by sort text.now a) (key_rest by sort text.now b) }
+{
+    match by {
+        Likeness::Key => numbers(a).cmp(&numbers(b)),
+        Likeness::Row => match a.line.cmp(&b.line) {
+            Ordering::Less => Ordering::Less,
+            Ordering::Greater => Ordering::Greater,
+            Ordering::Equal => compare_functions(sort, text, a, b),
+        },
+    }
+}
+
+/// The key of a mention.
+fn key_of(text: &ScannedSource, mention: Mention) -> &[u8]
+    ensures { result.now ≡ cut text.now.bytes mention.span }
+{
+    cut(text.source().bytes(), mention.span)
+}
+
+/// The order of two mentions with one hash.
+fn compare_keys(
+    by: Likeness,
+    sort: FactKind,
+    text: &ScannedSource,
+    a: Mention,
+    b: Mention,
+) -> Ordering
+    ensures { result
+        ≡ slice_cmp nat_cmp (bytes_rank by sort text.now a) (bytes_rank by sort text.now b) }
+{
+    match key_of(text, a).cmp(key_of(text, b)) {
+        Ordering::Less => Ordering::Less,
+        Ordering::Greater => Ordering::Greater,
+        Ordering::Equal => compare_rest(by, sort, text, a, b),
+    }
+}
+
+/// The order of two mentions, by hash, key and number; or by hash, key, line, function and number.
+fn compare(by: Likeness, sort: FactKind, text: &ScannedSource, a: Mention, b: Mention) -> Ordering
+    ensures { result ≡ slice_cmp nat_cmp (rank by sort text.now a) (rank by sort text.now b) }
+{
+    match a.hash.cmp(&b.hash) {
+        Ordering::Less => Ordering::Less,
+        Ordering::Greater => Ordering::Greater,
+        Ordering::Equal => compare_keys(by, sort, text, a, b),
+    }
+}
+
+/// Sorts mentions by hash and number, which is their order where no two keys have one hash.
+fn sort_by_hash(mentions: &mut [Mention])
+    ensures { IsPermutation mentions.old mentions.new }
+{
+    mentions.sort_unstable_by_key(|m: &Mention| -> (u64, u32) { (m.hash, m.number) });
+}
+
+/// Sorts mentions so that those alike stand together.
+fn sort_alike(by: Likeness, sort: FactKind, text: &ScannedSource, mentions: &mut [Mention])
+    ensures { mentions.new ≡ in_order (rank by sort text.now) mentions.old }
+{
+    mentions.sort_unstable_by(
+        |a: &Mention, b: &Mention| -> Ordering
+            ensures { result ≡ slice_cmp nat_cmp (rank by sort text.entry.now a.now)
+                (rank by sort text.entry.now b.now) }
+        { compare(by, sort, text, *a, *b) },
+    );
+}
+
+/// Whether two mentions of one key are alike.
+fn have_one_rest(by: Likeness, sort: FactKind, text: &ScannedSource, a: Mention, b: Mention) -> bool
+    ensures { result ≡ have_one_rest by sort text.now a b }
+{
+    match by {
+        Likeness::Key => true,
+        Likeness::Row => b.line == a.line && have_one_function(sort, text, a.number, b.number),
+    }
+}
+
+/// Whether two mentions are alike.
+fn are_alike(by: Likeness, sort: FactKind, text: &ScannedSource, a: Mention, b: Mention) -> bool
+    ensures { result ≡ are_alike by sort text.now a b }
+{
+    (a.hash == b.hash && key_of(text, a) == key_of(text, b)) && have_one_rest(by, sort, text, a, b)
+}
+
+/// The mention that follows another, if they are alike.
+fn next_mention(
+    by: Likeness,
+    sort: FactKind,
+    text: &ScannedSource,
+    one: Mention,
+    behind: &[Mention],
+) -> Option<u32>
+    ensures { result ≡ next_mention by sort text.now one behind.now }
 {
     match behind.first() {
-        Some(next) if entries_match(sort, text, entry, *next) => Some(next.number),
+        Some(next) if are_alike(by, sort, text, one, *next) => Some(next.number),
         _ => None,
     }
 }
 
-/// A link to an item, or to none.
-fn link_to(next: Option<u32>, first: bool) -> Link
-    ensures { result ≡ link_to next first }
+/// An item; 0 is for none.
+fn item_or_none(item: Option<u32>) -> u32
+    ensures { result ≡ item_or_none item }
 {
-    match next {
-        Some(next) => Link { next, first },
-        None => Link { next: 0, first },
+    match item {
+        Some(item) => item,
+        None => 0,
     }
 }
 
-/// Sets the link of each entry by the entry that follows it.
+/// The link of an item whose next one is this, and which is the first of those alike or not.
+fn link_by(by: Likeness, link: Link, next: Option<u32>, first: bool) -> Link
+    ensures { result ≡ link_by by link next first }
+{
+    match by {
+        Likeness::Key => Link {
+            next: item_or_none(next),
+            first,
+            repeat: link.repeat,
+        },
+        Likeness::Row => Link {
+            next: link.next,
+            first: link.first,
+            repeat: !first,
+        },
+    }
+}
+
+/// Sets the link of each mention by the one that follows it.
 #[tactic(auto, unfolding(crate::specs::steps::Laying::with_each))]
-pub(crate) fn set_each(sort: FactKind, text: &ScannedSource, entries: &[Entry], links: &mut [Link])
-    requires { AllByRecursion (λ (e : Entry). e.number < length links.old) entries.now }
-    ensures links { links.new ≡ with_each sort text.now true entries.now links.old }
+fn set_each(
+    by: Likeness,
+    sort: FactKind,
+    text: &ScannedSource,
+    mentions: &[Mention],
+    links: &mut [Link],
+)
+    requires { AllByRecursion (λ (m : Mention). m.number < length links.old) mentions.now }
+    ensures links { links.new ≡ with_each by sort text.now true mentions.now links.old }
     ensures len { length links.new ≡ length links.old }
 {
     let mut first = true;
-    for (i, entry) in entries.iter().enumerate() {
-        let next = next_item(sort, text, *entry, &entries[i + 1..]);
-        links[entry.number as usize] = link_to(next, first);
+    for (i, one) in mentions.iter().enumerate() {
+        let next = next_mention(by, sort, text, *one, &mentions[i + 1..]);
+        links[one.number as usize] = link_by(by, links[one.number as usize], next, first);
         first = next.is_none();
     }
 }
 
+/// Sets the links of all items by their mentions.
+fn set_links(sort: FactKind, text: &ScannedSource, mentions: &mut [Mention], links: &mut [Link])
+    requires mentions { mentions.old ≡ mentions_of sort text.now }
+    requires links { length links.old ≡ item_count sort text.now }
+    ensures links { links.new ≡ links_of sort text.now }
+    ensures len { length links.new ≡ length links.old }
+{
+    sort_by_hash(mentions);
+    sort_alike(Likeness::Key, sort, text, mentions);
+    set_each(Likeness::Key, sort, text, mentions, links);
+    sort_alike(Likeness::Row, sort, text, mentions);
+    set_each(Likeness::Row, sort, text, mentions, links);
+}
+
+/// Puts the mentions of all items of a text into a list, in the room that is there, in place of
+/// what it had.
+fn list(sort: FactKind, text: &ScannedSource, mentions: &mut Vec<Mention>)
+    requires { item_count sort text.now ≤ vec_capacity mentions.old }
+    ensures { mentions.new.items ≡ mentions_of sort text.now }
+{
+    mentions.truncate(0);
+    for item in 0..count_in(sort, text) {
+        let _ = mentions.push(mention_of(sort, text, item as u32));
+    }
+}
+
 /// Makes a list of `count` links, in the room that is there.
-pub(crate) fn fill(links: &mut Vec<Link>, count: usize)
+fn fill(links: &mut Vec<Link>, count: usize)
     requires { count ≤ vec_capacity links.old }
     ensures { length links.new.items ≡ count }
 {
     let none = Link {
         next: 0,
         first: true,
+        repeat: false,
     };
     if links.resize(count, none).is_err() {
         unreachable!()
     }
 }
 
-/// Lays links by the entries of all items, in order; none where there is too little room.
-pub(crate) fn lay_in(sort: FactKind, text: &ScannedSource, entries: &[Entry], links: &mut Vec<Link>)
-    requires { AreSorted sort text.now entries.now }
-    ensures { (links.new.items ≡ links.old.items) ⊎ (links.new.items ≡ links_of sort text.now) }
+/// Lays the links of all items of a text, with a list as scratch; none where one of the lists has
+/// too little room. It takes no memory.
+pub(crate) fn lay(
+    sort: FactKind,
+    text: &ScannedSource,
+    scratch: &mut Vec<Mention>,
+    links: &mut Vec<Link>,
+)
+    ensures { (links.new.items ≡ []) ⊎ (links.new.items ≡ links_of sort text.now) }
 {
-    if links.capacity() < entries.len() {
+    links.truncate(0);
+    let count = count_in(sort, text);
+    if links.capacity() < count || scratch.capacity() < count {
         return;
     }
-    fill(links, entries.len());
-    set_each(sort, text, entries, links.as_mut_slice());
-}
-
-/// Appends the entries of all items of a version.
-fn append_items(sort: FactKind, version: &Version, number: u32, entries: &mut Vec<Entry>)
-    requires { vec_len entries.old + item_count sort version.now ≤ vec_capacity entries.old }
-    ensures entries { entries.new.items
-        ≡ entries.old.items ++ item_entries sort version.now number }
-    ensures room { vec_capacity entries.old ≤ vec_capacity entries.new }
-{
-    for item in 0..item_count(sort, version) {
-        let entry = Entry {
-            prefix: key_prefix(item_key(sort, version, item as u32)),
-            name: 0,
-            version: number,
-            number: item as u32,
-            rows: 0,
-        };
-        let _ = entries.push(entry);
-    }
-}
-
-/// Puts the entries of all items of a version, under a number, into a list in place of what it had.
-/// It answers whether it did: the version is there, and the list has room.
-fn list_all(
-    sort_of: FactKind,
-    archive: &Archive,
-    version: u32,
-    number: u32,
-    scratch: &mut Vec<Entry>,
-) -> bool
-    ensures listed { result ≡ true
-        → AreListed sort_of archive.now version number scratch.new.items }
-    ensures room { vec_capacity scratch.old ≤ vec_capacity scratch.new }
-{
-    match archive.version(version) {
-        Some(kept) => {
-            if scratch.capacity() < item_count(sort_of, kept) {
-                return false;
-            }
-            scratch.truncate(0);
-            append_items(sort_of, kept, number, scratch);
-            true
-        }
-        None => false,
-    }
-}
-
-/// Whether the links of a version are wanted.
-fn wants_links(sort_of: FactKind, archive: &Archive, version: u32) -> bool {
-    match archive.version(version) {
-        Some(kept) => kept.wants_links(sort_of),
-        None => false,
-    }
-}
-
-/// Whether the repeats of a version are wanted.
-fn wants_repeats(sort_of: FactKind, archive: &Archive, version: u32) -> bool {
-    match archive.version(version) {
-        Some(kept) => kept.wants_repeats(sort_of),
-        None => false,
-    }
-}
-
-/// Puts the entries of all items of a version, under a number, into a list in place of what it had.
-/// It answers whether it did: the links of the version are wanted, and the list has room.
-pub(crate) fn list_items(
-    sort_of: FactKind,
-    archive: &Archive,
-    version: u32,
-    number: u32,
-    scratch: &mut Vec<Entry>,
-) -> bool
-    ensures listed { result ≡ true
-        → AreListed sort_of archive.now version number scratch.new.items }
-    ensures room { vec_capacity scratch.old ≤ vec_capacity scratch.new }
-{
-    wants_links(sort_of, archive, version) && list_all(sort_of, archive, version, number, scratch)
-}
-
-/// Lays links of a version, with a list as scratch: by a table, or by a sort where the places of
-/// the table are too crowded.
-fn lay_links(sort_of: FactKind, archive: &mut Archive, version: u32, scratch: &mut Vec<Entry>)
-    ensures archive { archive.new ≡ archive.old }
-    ensures room { vec_capacity scratch.old ≤ vec_capacity scratch.new }
-{
-    if !list_items(sort_of, archive, version, 0, scratch) {
-        return;
-    }
-    if archive.lay_by_table(version, sort_of, scratch.as_mut_slice()) {
-        return;
-    }
-    if !list_items(sort_of, archive, version, version, scratch) {
-        return;
-    }
-    sort(IndexKind::Facts(sort_of), archive, scratch);
-    archive.lay_links(version, sort_of, scratch.as_slice());
-}
-
-/// Finds the repeats of a version, with a list as scratch.
-fn lay_repeats(sort_of: FactKind, archive: &mut Archive, version: u32, scratch: &mut Vec<Entry>)
-    ensures archive { archive.new ≡ archive.old }
-    ensures room { vec_capacity scratch.old ≤ vec_capacity scratch.new }
-{
-    if !wants_repeats(sort_of, archive, version) {
-        return;
-    }
-    if !list_all(sort_of, archive, version, 0, scratch) {
-        return;
-    }
-    archive.find_repeats(version, sort_of, scratch.as_mut_slice());
-}
-
-/// Lays what helps to find the items of one key of a version and their repeats, with a list as
-/// scratch. It takes no memory: where there is too little room, nothing is laid.
-pub(crate) fn lay(sort_of: FactKind, archive: &mut Archive, version: u32, scratch: &mut Vec<Entry>)
-    ensures archive { archive.new ≡ archive.old }
-    ensures room { vec_capacity scratch.old ≤ vec_capacity scratch.new }
-{
-    lay_links(sort_of, archive, version, scratch);
-    lay_repeats(sort_of, archive, version, scratch);
+    list(sort, text, scratch);
+    fill(links, count);
+    set_links(sort, text, scratch.as_mut_slice(), links.as_mut_slice());
 }

@@ -50,7 +50,6 @@ mod items;
 mod laid;
 mod links;
 mod repeats;
-mod table;
 
 // An index of rows for its own sake, and the laws of the orders.
 pub mod laws;

@@ -34,8 +34,7 @@ use crate::block::HALF;
 use crate::blocks::Blocks;
 use crate::bound::{EntryBound, Side};
 use crate::entry::{Entry, Shown};
-use crate::kind::{FactKind, IndexKind};
-use crate::laid::lay;
+use crate::kind::IndexKind;
 use crate::memory::OutOfMemory;
 use crate::names::Names;
 use crate::order::compare;
@@ -130,16 +129,6 @@ fn append_each(kind: IndexKind, archive: &Archive, shown: &[Shown], entries: &mu
 {
     for one in shown {
         append(kind, archive, *one, entries);
-    }
-}
-
-/// Lays what helps to find the items of one key of versions, with a list as scratch.
-fn lay_each(kind: FactKind, archive: &mut Archive, shown: &[Shown], scratch: &mut Vec<Entry>)
-    ensures archive { archive.new ≡ archive.old }
-    ensures room { vec_capacity scratch.old ≤ vec_capacity scratch.new }
-{
-    for one in shown {
-        lay(kind, archive, one.version, scratch);
     }
 }
 
@@ -327,15 +316,6 @@ impl Postings {
         } else {
             self.sort_each(kind, archive, shown);
         }
-    }
-
-    /// Lays what helps to find the items of one key of these versions. It takes no memory.
-    pub(crate) fn lay_each(&mut self, kind: FactKind, archive: &mut Archive, shown: &[Shown])
-        ensures entries { self.new.entries ≡ self.old.entries }
-        ensures room { self.old.room ≤ self.new.room }
-        ensures archive { archive.new ≡ archive.old }
-    {
-        lay_each(kind, archive, shown, &mut self.scratch);
     }
 
     /// Puts the entries of many versions among the others by one sort.

@@ -74,6 +74,7 @@ use crate::entry::Shown;
 use crate::facts::{FactRows, are_few};
 use crate::index::{Index, put_in_each, reserve_each, take_from_each, take_names_from_each};
 use crate::kind::{FactKind, IndexKind};
+use crate::laid::Mention;
 use crate::listed::{are_there, ascend, has_any_name};
 use crate::memory::OutOfMemory;
 use crate::room::Room;
@@ -102,6 +103,8 @@ pub struct Shelf {
     totals: Totals,
     room: Room,
     turns: u64,
+    /// Scratch, in which the links of a version are laid.
+    mentions: Vec<Mention>,
 }
 
 impl Model for Shelf {
@@ -161,6 +164,15 @@ fn read_room(room: Room)
     let _facts = (room.defs, room.uses, room.calls);
 }
 
+/// Makes room for `n` mentions in all.
+fn make_room(mentions: &mut Vec<Mention>, n: usize) -> Result<(), OutOfMemory> {
+    mentions.truncate(0);
+    match mentions.reserve(n) {
+        Ok(()) => Ok(()),
+        Err(_) => Err(OutOfMemory),
+    }
+}
+
 impl Shelf {
     /// A shelf that keeps and shows nothing. It takes no memory.
     pub fn new(alloc: Global, profile: Profile) -> Shelf
@@ -194,6 +206,7 @@ impl Shelf {
                 calls: 0,
             },
             turns: 0,
+            mentions: Vec::new(alloc),
         }
     }
 
@@ -243,6 +256,7 @@ impl Shelf {
         ensures room { KeepsRoom self.old self.new }
     {
         let room = larger(&self.room, room);
+        make_room(&mut self.mentions, room.uses.max(room.calls) as usize)?;
         match self.archive.reserve(room.names, room.versions) {
             Ok(()) => {}
             Err(_) => return Err(OutOfMemory),
@@ -501,7 +515,7 @@ impl Shelf {
     pub fn flush(&mut self, kind: IndexKind)
         ensures { self.new ≡ self.old }
     {
-        self.indexes[place_of(kind)].flush(&mut self.archive);
+        self.indexes[place_of(kind)].flush(&mut self.archive, &mut self.mentions);
     }
 
     /// Puts what is pending in order for a question about the facts of a key, but not where these

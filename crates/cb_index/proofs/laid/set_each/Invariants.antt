@@ -4,7 +4,7 @@ use Rattle.cb_index.proofs.laid.set_each.Given as goal
 
 abbrev pub invariant-loop-i : goal.invariant-loop-i
 invariant-loop-i l = record {
-  found : with_each l.sort l.text l.first (drop l.i l.entries) l.links
-      ≡ with_each l.sort l.text true l.entries l.initial.links;
+  found : with_each l.by l.sort l.text l.first (drop l.i l.mentions) l.links
+      ≡ with_each l.by l.sort l.text true l.mentions l.initial.links;
   size : length l.links ≡ length l.initial.links;
 }
