@@ -82,20 +82,6 @@ module _ {X : Type 0} (P : X → Type 0) where
   all_set (y ∷ ys) zero x all here = (here, all.1)
   all_set (y ∷ ys) (suc k) x all here = (all.0, all_set ys k x all.1 here)
 
-  pub all_insert : (xs : List X) (k : ℕ) (x : X) → AllByRecursion P xs → P x
-      → AllByRecursion P (insert xs k x)
-  all_insert xs zero x all here = (here, all)
-  all_insert [] (suc k) x all here = (here, tt)
-  all_insert (y ∷ ys) (suc k) x all here = (all.0, all_insert ys k x all.1 here)
-
-  -- the other elements stay
-  pub all_remove : (xs : List X) (k : ℕ) (x : X) → AllByRecursion P xs
-      → AllByRecursion P (remove (set xs k x) k)
-  all_remove [] zero x all = tt
-  all_remove [] (suc k) x all = tt
-  all_remove (y ∷ ys) zero x all = all.1
-  all_remove (y ∷ ys) (suc k) x all = (all.0, all_remove ys k x all.1)
-
   pub all_front : (xs ys : List X) → AllByRecursion P (xs ++ ys) → AllByRecursion P xs
   all_front [] ys all = tt
   all_front (x ∷ xs) ys all = (all.0, all_front xs ys all.1)

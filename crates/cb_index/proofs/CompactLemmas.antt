@@ -513,16 +513,6 @@ module _ (s t : Shelved) (one : Shown) (v : ℕ) (there : AllByRecursion (IsTher
   }
 
 -- ---- the same is shown
-pub shows_itself : (s : Shelved) → ShowsSame s s
-shows_itself s = record {
-  profile = refl;
-  names = refl;
-  numbers = refl;
-  files = refl;
-  defs = refl;
-  uses = refl;
-  calls = refl;
-}
 
 pub shows_through : (r s t : Shelved) → ShowsSame r s → ShowsSame s t → ShowsSame r t
 shows_through r s t first later = record {

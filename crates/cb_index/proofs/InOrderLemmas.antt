@@ -1,17 +1,16 @@
 -- Lists in the order of a key.
-use Rattle.std.proofs.Common.{◌≡◌, ◌∙◌, ◌≤◌, ◌<◌, ◌+◌, ℕ, zero, suc, Bool, true, false, List, []}
-use Rattle.std.proofs.Common.{◌∷◌, ◌++◌, refl, sym, ap, length, map, take, drop, filter, get_or}
-use Rattle.std.proofs.Common.{arith, ⊎_elim}
-use Rattle.std.proofs.lemmas.Bool.{cases_Bool, true≢false, false≢true}
+use Rattle.std.proofs.Common.{◌≡◌, ◌∙◌, ◌+◌, ℕ, suc, Bool, true, false, List, []}
+use Rattle.std.proofs.Common.{◌∷◌, refl, sym, ap, length, map, filter}
+use Rattle.std.proofs.Common.{arith}
+use Rattle.std.proofs.lemmas.Bool.{true≢false}
 use Rattle.std.proofs.lemmas.List.Sums.{sum_by-append, sum_by-cons}
 use Rattle.std.specs.Prelude.{cond, not, sum_by}
 use Rattle.std.specs.Cmp.Lexicographic.{slice_cmp}
-use Rattle.std.specs.List.{AllByRecursion, AllWithin, flat_map}
-use Rattle.std.specs.List.Sorted.{IsPartitionedBy}
+use Rattle.std.specs.List.{AllByRecursion, flat_map}
 use Rattle.std.specs.Ordering.{is_gt, nat_cmp}
 use Rattle.cb_scan.specs.Order.{AreOrdered, goes_first, in_order, put}
 use Rattle.cb_scan.proofs.FactsWithin.{all_in_order}
-use Rattle.cb_scan.proofs.OrderLemmas.{Sorted, first_trans, goes_itself, in_order_sorted}
+use Rattle.cb_scan.proofs.OrderLemmas.{Sorted, in_order_sorted}
 use Rattle.cb_scan.proofs.OrderLemmas.{in_order_sum, put_sum, unique}
 
 -- ---- what stays and what goes
@@ -176,51 +175,6 @@ module _ {X : Type 0} (key : X → List ℕ) (has : X → Bool) where
       by_test false isnt later =
           put_out x (in_order key xs) isnt ∙ later
           ∙ sym (ap (λ b. cond b (x ∷ filter has xs) (filter has xs)) isnt)
-
--- ---- where an element is put
-module _ {X : Type 0} (key : X → List ℕ) (x : X) where
-  pub put_at : (n : ℕ) (ys : List X) → n ≤ length ys
-      → AllWithin (λ y. is_gt (slice_cmp nat_cmp (key x) (key y)) ≡ true) ys 0 n
-      → AllWithin (λ y. is_gt (slice_cmp nat_cmp (key x) (key y)) ≡ false) ys n (length ys)
-      → take n ys ++ x ∷ drop n ys ≡ put key x ys
-  unfolding put
-  put_at zero [] within before after = refl
-  put_at (suc n) [] within before after = absurd (omega (arith, within))
-  put_at zero (y ∷ ys) within before after =
-      sym (ap (λ b. cond (not b) (x ∷ y ∷ ys) (y ∷ put key x ys))
-      (after 0 y (omega arith) (omega arith)))
-  put_at (suc n) (y ∷ ys) within before after =
-      ap (λ l. y ∷ l) (put_at n ys (omega (arith, within))
-      (λ k d low below. before (suc k) d (omega arith) (omega (arith, below)))
-      (λ k d low below. after (suc k) d (omega (arith, low)) (omega (arith, below))))
-      ∙ sym (ap (λ b. cond (not b) (x ∷ y ∷ ys) (y ∷ put key x ys))
-      (before 0 y (omega arith) (omega arith)))
-
-  all_at : (P : X → Type 0) (ys : List X) → AllByRecursion P ys → (k : ℕ) (d : X) → k < length ys
-      → P (get_or ys k d)
-  all_at P [] all k d below = absurd (omega (arith, below))
-  all_at P (y ∷ ys) all zero d below = all.0
-  all_at P (y ∷ ys) all (suc k) d below = all_at P ys all.1 k d (omega (arith, below))
-
-  far : (ys : List X) → Sorted key ys → (i j : ℕ) (d : X) → i ≤ j → j < length ys
-      → goes_first key (get_or ys i d) (get_or ys j d) ≡ true
-  far [] s i j d upward below = absurd (omega (arith, below))
-  far (y ∷ ys) s zero zero d upward below = goes_itself key y
-  far (y ∷ ys) s zero (suc j) d upward below =
-      all_at (λ z. goes_first key y z ≡ true) ys s.0 j d (omega (arith, below))
-  far (y ∷ ys) s (suc i) zero d upward below = absurd (omega (arith, upward))
-  far (y ∷ ys) s (suc i) (suc j) d upward below =
-      far ys s.1 i j d (omega (arith, upward)) (omega (arith, below))
-
-  -- a sorted list is parted by the place of an element
-  pub put_parted : (ys : List X) → Sorted key ys
-      → IsPartitionedBy (λ y. is_gt (slice_cmp nat_cmp (key x) (key y))) ys
-  put_parted ys s i j d upward below is =
-      ⊎_elim (λ after. after)
-      (λ first. absurd
-      (false≢true (sym (ap not is) ∙ first_trans (key x) (key (get_or ys i d)) (key (get_or ys j d))
-      (ap not first) (far ys s i j d upward below))))
-      (cases_Bool (is_gt (slice_cmp nat_cmp (key x) (key (get_or ys i d)))))
 
 -- ---- sums and lengths
 module _ {X Y : Type 0} (g : X → List Y) where

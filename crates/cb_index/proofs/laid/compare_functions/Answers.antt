@@ -2,7 +2,6 @@ use Rattle.std.proofs.Common.{◌≡◌, ◌∙◌, sym, ap}
 use Rattle.std.specs.Cmp.Lexicographic.{slice_cmp}
 use Rattle.std.specs.Ordering.{nat_cmp, ordering_then}
 use Rattle.cb_scan.specs.TextFacts.{TextFacts}
-use Rattle.cb_index.specs.Scanned.{facts_of}
 use Rattle.cb_index.specs.steps.Laying.{column_rest, hash}
 use Rattle.cb_index.specs.steps.Repeating.{function_span}
 use Rattle.cb_index.proofs.LayLemmas.{one_span_cmp}
