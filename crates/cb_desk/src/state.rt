@@ -1,5 +1,5 @@
 //! The state of a session.
-ghost use Rattle.std.specs.Prelude.{◌≡◌, ◌≢◌, [], IfErr, IfOk, length};
+ghost use Rattle.std.specs.Prelude.{◌≡◌, ◌≢◌, [], IfErr, IfOk, OnOk, length};
 ghost use Rattle.std.specs.Option.{option_copied, option_map};
 ghost use Rattle.cb_scan.specs.Profiles.{facts_in};
 ghost use Rattle.cb_index.specs.Rows.{calls_in, calls_of, tags_from_name, tags_named, uses_of};
@@ -24,9 +24,8 @@ ghost use Rattle.cb_desk.specs.Timeline.{
   redone,
   undone,
 };
-ghost use Rattle.cb_desk.specs.Turns.{Turns};
+ghost use Rattle.cb_desk.specs.Turns.{LoadTurns, Turns};
 ghost use Rattle.cb_desk.specs.World.{IsValidWorld, text_named};
-ghost use Rattle.cb_desk.specs.steps.Walks.{timeline_in};
 
 use crate::history::History;
 use crate::{
@@ -110,16 +109,6 @@ impl Desk {
         }
     }
 
-    /// The desk of a history, with the meter that counted its bytes.
-    pub(crate) fn over(history: History, meter: Meter) -> Desk
-        requires { IsValidTimeline (timeline_in history) }
-        ensures timeline { result.timeline ≡ timeline_in history }
-        ensures meter { result.meter ≡ meter }
-        ensures turns { result.turns ≡ history.kept.turns }
-    {
-        Desk { history, meter }
-    }
-
     /// Makes a change. After a refusal the files, their past and their future are as before, and
     /// the bytes of the change are dropped.
     pub fn change(&mut self, alloc: Global, change: Change<'_>) -> Result<(), Refusal>
@@ -129,6 +118,8 @@ impl Desk {
             self.old.meter self.new.meter result }
         ensures turns { Turns self.old.timeline.present self.new.timeline.present self.old.turns
             self.new.turns result }
+        ensures load { OnOk result
+            (LoadTurns (step_of change.entry) self.old.turns self.new.turns) }
     {
         // A growth can fail only after all is judged. All growths come before the first move.
         let _counted = self.meter.read();

@@ -43,7 +43,7 @@ pub(super) fn want_refusal(text: &[u8]) -> Option<Refusal>
 }
 
 /// Why a file can't be loaded beside so many others, if it can't: the lowest refusal that applies.
-pub(crate) fn load_refusal(
+fn load_refusal(
     bounds: Bounds,
     count: usize,
     exists: bool,
