@@ -85,9 +85,6 @@ COMMANDS = {
 # What begins a session rather than a command of it.
 BEGINS = {
     "cb_index totals_of",
-    "cb_desk Loading::new",
-    "cb_desk Loading::load",
-    "cb_desk Loading::desk",
     "cb_session prepare",
     "cb_session run",
 }

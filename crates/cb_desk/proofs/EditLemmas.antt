@@ -1,8 +1,6 @@
 -- Lemmas on edits of a list of places.
 use Rattle.std.proofs.Common.{◌≡◌, ◌∙◌, sym, ap, refl, ℕ, suc, ◌+◌, Bool, true, false, List, []}
-use Rattle.std.proofs.Common.{◌∷◌, ◌++◌, ◌≤◌, length, take, drop, arith, append-nil, append_assoc}
-use Rattle.std.proofs.Math.Seq.{take-append_seam, drop-append_seam, take-length}
-use Rattle.std.proofs.lemmas.List.{drop_all}
+use Rattle.std.proofs.Common.{◌∷◌, ◌++◌, ◌≤◌, length, drop, arith, append-nil, append_assoc}
 use Rattle.cb_desk.specs.declared.edits.Edit.{Edit}
 use Rattle.cb_desk.specs.declared.spot.NumberedPlace.{NumberedPlace}
 use Rattle.cb_desk.specs.steps.Edits.{Begins, IsEachDifference, edited_each, turned_each}
@@ -114,26 +112,3 @@ pub shorter : (p : NumberedPlace) (kept most : ℕ) (ps : List NumberedPlace) �
     → kept + length ps ≤ most → kept + 1 + length (drop 1 ps) ≤ most
 shorter p kept most [] b h = cc
 shorter p kept most (q ∷ ps) b h = omega (arith, h)
-
--- ---- one edit at the end
-pub pushed_behind : (p : NumberedPlace) (ps : List NumberedPlace)
-    → IsEachDifference (record { kept = length ps; place = p; is_put = true } ∷ []) ps
-    (ps ++ p ∷ [])
-pushed_behind p ps = record {
-  on = (λ i. take_length ps i ++ p ∷ drop_length ps i);
-  back =
-      (λ i. take-append_seam ps (p ∷ []) i ++ drop 1 (drop-append_seam ps (p ∷ []) i))
-      ∙ append-nil ps;
-}
-  where
-    take_length : (xs : List NumberedPlace) → take (length xs) xs ≡ xs
-    take_length xs = take-length xs
-
-    drop_length : (xs : List NumberedPlace) → drop (length xs) xs ≡ []
-    drop_length xs = drop_all (length xs) xs (omega arith)
-
-pub popped_behind : (p : NumberedPlace) (front : List NumberedPlace)
-    → IsEachDifference (record { kept = length front; place = p; is_put = false } ∷ [])
-    (front ++ p ∷ []) front
-popped_behind p front =
-    record { on = (pushed_behind p front).back; back = (pushed_behind p front).on }

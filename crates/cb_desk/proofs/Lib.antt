@@ -15,7 +15,6 @@ pub mod Fresh
 pub mod Gaps
 pub mod HeldRows
 pub mod LineTexts
-pub mod LoadingLemmas
 pub mod LookBackLemmas
 pub mod MarkPlans
 pub mod MarkedFiles

@@ -119,9 +119,6 @@ not-above k b other = by_cases (Keys k b) refl other
     by_cases Greater e is =
         ap is_gt (nat_list_cmp_total.antisymm b k) ∙ ap (λ o. is_gt (ordering_reverse o)) e
 
-less-not-above : (a b : List ℕ) → Keys a b ≡ Less → is_gt (Keys a b) ≡ false
-less-not-above a b less = ap is_gt less
-
 -- a row on a lower line is another row
 lower-other : (r q : AnswerRow) → Keys (row_key q) (row_key r) ≡ Less → row_eq r q ≡ false
 lower-other r q less =

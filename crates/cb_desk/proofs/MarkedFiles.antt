@@ -13,7 +13,7 @@ use Rattle.cb_index.specs.declared.entry.Shown.{Shown}
 use Rattle.cb_desk.specs.declared.spot.NumberedPlace.{NumberedPlace}
 use Rattle.cb_desk.specs.Places.{is_in}
 use Rattle.cb_desk.specs.World as world
-use Rattle.cb_desk.specs.World.{Place, is_named}
+use Rattle.cb_desk.specs.World.{is_named}
 use Rattle.cb_desk.specs.steps.Named.{IsFirst, IsNotFirst}
 use Rattle.cb_desk.specs.steps.Records.{place_in}
 use Rattle.cb_desk.specs.steps.Replaced.{has_mark, places_in}

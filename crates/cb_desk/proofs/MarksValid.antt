@@ -20,7 +20,6 @@ use Rattle.cb_desk.specs.World.{File, Place, has_file, text_of_file, place_key, 
 use Rattle.cb_desk.specs.World.{AreAscending, IsPlaceOf, IsMarkIn, AreMarksFor, AreValidMarks}
 use Rattle.cb_desk.specs.World.{AreValidFiles, WorldBounds}
 use Rattle.cb_desk.specs.steps.Held.{held_in, held_places}
-use Rattle.cb_desk.specs.steps.Named.{file_named}
 use Rattle.cb_desk.proofs.Placed.{by_name}
 use Rattle.cb_desk.proofs.PlaceLemmas.{IsAt, place-there, places-with, places-without}
 use Rattle.cb_desk.proofs.PlaceLemmas.{places-renamed, moved, same-name, own-texts}
@@ -339,14 +338,3 @@ pub frames-kept : (files : List File) (frames : List Place)
 frames-kept files frames =
     all-along (λ p. is_place_of files p ≡ true) (IsPlaceOf files)
     (filter (is_place_of files) frames) (place-from files) (all-passed (is_place_of files) frames)
-
--- no line of a file that is not there is there
-pub no-place : (files : List File) (p : Place) → None ≡ file_named files p.file
-    → is_place_of files p ≡ false
-no-place files p none =
-    (elim (is_place_of files p) as (λ b. is_place_of files p ≡ b → b ≡ false) [
-      | true ↦ λ h. let there = place-there files p (place-from files p h) in
-          let some = ap (λ b. cond {A = Option File} b
-          (Some (record { name = p.file; bytes = text_of_file files p.file })) None) there in cc
-      | false ↦ λ h. refl
-    ]) refl

@@ -1,5 +1,5 @@
 -- What changes, undos and redos do to a timeline.
-use Rattle.std.proofs.Common.{◌≡◌, ◌∙◌, sym, ap, refl, subst, ◌<◌, Bool, true, false, cond, List}
+use Rattle.std.proofs.Common.{◌≡◌, ◌∙◌, sym, ap, refl, subst, ℕ, ◌<◌, Bool, true, false, cond, List}
 use Rattle.std.proofs.Common.{[], ◌∷◌, length, arith, Result, Ok, Err, Option, Some, None, nat_le}
 use Rattle.std.specs.List.{AllByRecursion}
 use Rattle.cb_desk.specs.declared.refusal.Refusal.{Refusal}
@@ -80,6 +80,10 @@ beside : (v w : World) → AreAlike v w → (ws : List World)
 beside v w same ws all =
     all-along (IsValidBeside v) (IsValidBeside w) ws
     (λ x is. (is.0, (is.1.0 ∙ same.0, is.1.1 ∙ same.1))) all
+
+-- a past that is not as long as it may be is shorter
+pub below_most : (most n : ℕ) → nat_le most n ≡ false → n < most
+below_most most n few = grind (arith, few)
 
 -- a change of a valid timeline to a valid world
 pub moved_on-valid : (t : Timeline) (w : World) → IsValidTimeline t → IsValidWorld w

@@ -16,10 +16,9 @@ use Rattle.cb_desk.specs.declared.edits.Edit.{Edit}
 use Rattle.cb_desk.specs.declared.spot.NumberedPlace.{NumberedPlace}
 use Rattle.std.proofs.lemmas.List.{length-map}
 use Rattle.cb_desk.specs.Stack.{popped}
-use Rattle.cb_desk.specs.World.{World}
 use Rattle.cb_desk.specs.declared.renaming.Renaming.{Renaming}
-use Rattle.cb_desk.specs.steps.Edits.{Edits, IsDifference, both, each, edited, edited_each, more}
-use Rattle.cb_desk.specs.steps.Edits.{renamed, renaming, turned_edits, with_number}
+use Rattle.cb_desk.specs.steps.Edits.{Edits, both, each, edited, edited_each, more}
+use Rattle.cb_desk.specs.steps.Edits.{renamed, renaming, with_number}
 use Rattle.cb_desk.specs.steps.Plans.{AreEdits, IsPlan, Keeps, LeadsTo, Planned, with_places}
 use Rattle.cb_desk.specs.steps.Records.{Kept, Numbered, Turn, other, other_wanted, place_in}
 use Rattle.cb_desk.specs.steps.Records.{without, world_in}
@@ -227,19 +226,6 @@ module _ (k : Kept) (p : Planned) (wanted : Option (Option (List ℕ))) (marks f
         (with_places k.archive k.now wanted marks frames) a) (sym turn) (leads a keeps),
   )
 
--- ---- edits that make one list from another
-pub are_edits : (names : ℕ) (es : Edits) (ps qs : List NumberedPlace) → IsDifference es ps qs
-    → AllByRecursion (λ (p : NumberedPlace). p.name < names) qs → AreEdits names es ps
-are_edits names es ps qs is named = record {
-  back = ap (edited (turned_edits es)) is.on ∙ is.back;
-  named = subst (AllByRecursion (λ (p : NumberedPlace). p.name < names)) (sym is.on) named;
-}
-
-pub no_edits : (names : ℕ) (es : Edits) (ps : List NumberedPlace) → es ≡ each []
-    → AllByRecursion (λ (p : NumberedPlace). p.name < names) ps → AreEdits names es ps
-no_edits names es ps none named =
-    subst (λ xs. AreEdits names xs ps) (sym none) (record { back = refl; named = named })
-
 -- what is taken of places that are below a number is
 pub below_taken : (names n : ℕ) (ps : List NumberedPlace)
     → AllByRecursion (λ (p : NumberedPlace). p.name < names) ps
@@ -253,23 +239,6 @@ pub below_pushed : (names : ℕ) (p : NumberedPlace) (ps : List NumberedPlace) �
     → AllByRecursion (λ (q : NumberedPlace). q.name < names) (ps ++ p ∷ [])
 below_pushed names p [] here all = (here, tt)
 below_pushed names p (q ∷ ps) here all = (all.0, below_pushed names p ps here all.1)
-
--- ---- the worlds of such edits
-module _ (k : Kept) (v : World) (wanted : Option (Option (List ℕ))) (marks frames : Edits)
-    (new_marks new_frames : List NumberedPlace)
-    (are_marks : edited marks k.now.marks ≡ new_marks)
-    (are_frames : edited frames k.now.frames ≡ new_frames) where
-  pub world_of_edits : with_places k.archive k.now wanted marks frames
-      ≡ record (world_in k.archive k.now) {
-        wanted = other_wanted wanted k.now.wanted;
-        marks = map (place_in k.archive) new_marks;
-        frames = map (place_in k.archive) new_frames;
-      }
-  world_of_edits = λ i. record (world_in k.archive k.now) {
-    wanted = other_wanted wanted k.now.wanted;
-    marks = map (place_in k.archive) (are_marks i);
-    frames = map (place_in k.archive) (are_frames i);
-  }
 
 -- the world without its top frame
 module _ (a : Archived) where

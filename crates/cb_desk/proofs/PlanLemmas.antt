@@ -36,7 +36,7 @@ module _ (k l : Kept) (records : List Turn) (done : ℕ) (p : Planned)
       ap reverse (ap (λ n. take n (take done records ++ p.turn ∷ [])) (sym long)
       ∙ take-append_seam (take done records) (p.turn ∷ []))
 
-  on_is : turns_on to ≡ p.turn ∷ []
+  pub on_is : turns_on to ≡ p.turn ∷ []
   on_is =
       ap (λ n. drop n (take done records ++ p.turn ∷ [])) (sym long)
       ∙ drop-append_seam (take done records) (p.turn ∷ [])

@@ -5,7 +5,7 @@ use Rattle.std.proofs.Common.{arith, length-append}
 use Rattle.std.proofs.Math.Nat.{le-min, min-le_left, min-le_right}
 use Rattle.std.proofs.lemmas.Bool.{true≢false}
 use Rattle.std.proofs.lemmas.Slice.Eq.{bytes_eq-Decides}
-use Rattle.std.specs.Prelude.{min, ◌&&◌, Result, Ok, Err, IsErr, is_err}
+use Rattle.std.specs.Prelude.{min, ◌&&◌, Result, Ok, Err, IsErr, OnOk, is_err}
 use Rattle.std.specs.List.{AllByRecursion, list_any}
 use Rattle.cb_scan.proofs.FunctionsRise.{all_implied}
 use Rattle.cb_index.specs.Archived.{Archived}
@@ -15,11 +15,15 @@ use Rattle.cb_index.specs.declared.entry.Shown.{Shown}
 use Rattle.cb_index.proofs.InOrderLemmas.{length_in_order}
 use Rattle.cb_desk.specs.Desk.{counted, is_marked}
 use Rattle.cb_desk.specs.Places.{is_in}
-use Rattle.cb_desk.specs.Turns.{AreTurnsOf, Turns, differing, is_touched, is_unchanged}
+use Rattle.cb_desk.specs.Step.{Step, load, reload, unload, rename, want, mark, mark_all}
+use Rattle.cb_desk.specs.Step.{replace, tag, pop}
+use Rattle.cb_desk.specs.Turns.{AreTurnsOf, LoadTurns, Turns, differing, is_touched, is_unchanged}
 use Rattle.cb_desk.specs.Turns.{only_in_second, same_file, touched}
 use Rattle.cb_desk.specs.World.{File, Place, World, has_file, is_named}
-use Rattle.cb_desk.specs.steps.Records.{IsFew, IsTurn, Kept, Numbered, Turn, other, place_in}
+use Rattle.cb_desk.specs.steps.Plans.{MovesOne}
+use Rattle.cb_desk.specs.steps.Records.{IsFew, IsTurn, Kept, Numbered, Turn, moves, other, place_in}
 use Rattle.cb_desk.specs.steps.Records.{without, world_in}
+use Rattle.cb_desk.specs.steps.Walks.{next_moves}
 
 -- more is counted of more, up to the limit
 capped_more : (limit m a b : ℕ) → a ≤ b → min (m + a) limit ≤ min (m + b) limit
@@ -284,3 +288,25 @@ pub turns_next : {E : Type 0} → (u v w : World) (m k n : ℕ) (r : Result (Uni
 turns_next u v w m k n (Ok x) world count fine turns =
     subst (λ i. AreTurnsOf u w i n) count (subst (λ x. AreTurnsOf x w k n) world turns)
 turns_next u v w m k n (Err e) world count fine turns = absurd (true≢false fine)
+
+-- a call that makes the only turn to come
+pub moved_next : {E : Type 0} → (m k n : ℕ) (ts : List Turn) (t : Turn) (r : Result (Unit {0}) E)
+    → k ≡ m → ts ≡ t ∷ [] → is_err r ≡ false → OnOk r (n ≡ counted k (next_moves ts))
+    → n ≡ counted m (moves t)
+moved_next m k n ts t (Ok x) count next fine is =
+    is ∙ (λ i. counted (count i) (next_moves (next i)))
+moved_next m k n ts t (Err e) count next fine is = absurd (true≢false fine)
+
+-- what the turn of a change counts is what a load counts
+pub load_turns : (s : Step) (t : Turn) (m k n : ℕ) → k ≡ m → n ≡ counted k (moves t)
+    → MovesOne s t → LoadTurns s m n
+load_turns (load name bytes) t m k n count is one = is ∙ (λ i. counted (count i) (one i))
+load_turns (reload name bytes) t m k n count is one = tt
+load_turns (unload name) t m k n count is one = tt
+load_turns (rename old new) t m k n count is one = tt
+load_turns (want text) t m k n count is one = tt
+load_turns (mark i) t m k n count is one = tt
+load_turns mark_all t m k n count is one = tt
+load_turns (replace text) t m k n count is one = tt
+load_turns (tag name i) t m k n count is one = tt
+load_turns pop t m k n count is one = tt

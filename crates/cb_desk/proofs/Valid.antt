@@ -11,8 +11,7 @@ use Rattle.std.proofs.lemmas.Map.Text.{is_eq-slice_cmp}
 use Rattle.std.proofs.lemmas.List.Filters.{length-filter_both}
 use Rattle.std.proofs.lemmas.List.Kept.{IsStrictlySortedBy-filter}
 use Rattle.cb_tags.specs.Names.{is_file_name}
-use Rattle.cb_desk.specs.World.{AreBounds, AreValidFiles, File, WorldBounds, has_file, is_named}
-use Rattle.cb_desk.specs.World.{widest_bounds}
+use Rattle.cb_desk.specs.World.{AreValidFiles, File, WorldBounds, has_file, is_named}
 use Rattle.cb_desk.specs.Files.{is_before, with_file, without_file}
 use Rattle.cb_desk.proofs.Placed.{by_name, less-from}
 
@@ -153,16 +152,3 @@ without_file-fewer (f ∷ files) name there =
       | true ↦ λ _. let few = length-kept (λ g. not (is_named name g)) files in omega (arith, few)
       | false ↦ λ e. let fewer = without_file-fewer files name e in omega (arith, fewer)
     ]) there
-
--- valid files are valid within the widest bounds
-pub widest-valid : (b : WorldBounds) (files : List File) → AreBounds b → AreValidFiles b files
-    → AreValidFiles widest_bounds files
-widest-valid b files bounds valid = record {
-  names = valid.names;
-  sizes =
-      all-along (λ (f : File). length f.bytes ≤ b.file_bytes)
-      (λ (f : File). length f.bytes ≤ widest_bounds.file_bytes) files
-      (λ f small. let most = bounds.file_bytes in omega (arith, small, most)) valid.sizes;
-  count = let count = valid.count in let most = bounds.files in omega (arith, count, most);
-  ascending = valid.ascending;
-}

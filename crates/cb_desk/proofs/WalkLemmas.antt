@@ -187,7 +187,7 @@ module _ (k : Kept) (records : List Turn) (d : ℕ) (t : Turn) (within : d < len
       ∙ reverse-append (take d records) (get_or records d t ∷ [])
       ∙ ap (λ x. x ∷ reverse (take d records)) (sym at_d)
 
-  on_first : turns_on redo_from ≡ t ∷ turns_on undo_from
+  pub on_first : turns_on redo_from ≡ t ∷ turns_on undo_from
   on_first = drop-cons records d t within ∙ rw (← at_d, add-one d) refl
 
   module _ (is : IsRecorded undo_from) where

@@ -1,9 +1,10 @@
 -- How often files are shown and hidden on the way from one world to another.
 use Rattle.std.specs.Prelude.{◌≡◌, ◌≤◌, ◌+◌, ◌*◌, ◌++◌, ◌&&◌, ◌||◌, ℕ, Bool, List, length, filter}
-use Rattle.std.specs.Prelude.{not, Result, Ok, Err}
+use Rattle.std.specs.Prelude.{not, Result, Ok, Err, ⊤}
 use Rattle.std.specs.List.{list_any}
 use Rattle.std.specs.Str.{bytes_eq}
 use Rattle.cb_desk.specs.Desk.{counted, is_marked}
+use Rattle.cb_desk.specs.Step.{Step, load}
 use Rattle.cb_desk.specs.World.{File, World, has_file}
 
 -- two files have one name and the same bytes
@@ -42,3 +43,8 @@ pub record AreTurnsOf (v w : World) (old new : ℕ) : Type 0 where
 abbrev pub Turns : {A E : Type 0} → (v w : World) → (old new : ℕ) → Result A E → Type 0
 Turns v w old new (Ok _) = AreTurnsOf v w old new
 Turns v w old new (Err _) = new ≡ old
+
+-- a load that is done shows its file, and shows or hides no other
+abbrev pub LoadTurns : Step → (old new : ℕ) → Type 0
+LoadTurns (load name bytes) old new = new ≡ counted old 1
+LoadTurns _ old new = ⊤

@@ -3,7 +3,6 @@ pub mod Compacted
 pub mod Edits
 pub mod Held
 pub mod Lent
-pub mod Loading
 pub mod LookBack
 pub mod MarkedLines
 pub mod Plans

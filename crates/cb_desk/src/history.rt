@@ -1,10 +1,22 @@
 //! The present world, and the records that lead back and on from it.
-ghost use Rattle.std.specs.Prelude.{◌≡◌, ◌<◌, [], ◌∷◌, ⊤, length, nat_le, MatchOption, MatchResult};
+ghost use Rattle.std.specs.Prelude.{
+  ◌≡◌,
+  ◌<◌,
+  [],
+  ◌∷◌,
+  ⊤,
+  length,
+  nat_le,
+  MatchOption,
+  MatchResult,
+  OnOk,
+};
 ghost use Rattle.std.specs.Option.{option_map};
+ghost use Rattle.cb_desk.specs.Desk.{counted};
 ghost use Rattle.cb_desk.specs.Models.{step_of};
 ghost use Rattle.cb_desk.specs.Step.{place_of};
 ghost use Rattle.cb_desk.specs.declared.spot.NumberedPlace.{NumberedPlace};
-ghost use Rattle.cb_desk.specs.steps.Records.{place_in, world_in};
+ghost use Rattle.cb_desk.specs.steps.Records.{moves, place_in, world_in};
 ghost use Rattle.cb_desk.specs.steps.Still.{AreStill};
 ghost use Rattle.cb_desk.specs.World.{World, IsValidWorld};
 ghost use Rattle.cb_desk.specs.steps.Plans.{IsPlan};
@@ -18,7 +30,7 @@ ghost use Rattle.cb_desk.specs.Timeline.{
   undone,
 };
 ghost use Rattle.cb_desk.specs.Turns.{Turns};
-ghost use Rattle.cb_desk.specs.steps.Walks.{IsKept, IsRecorded, timeline_in};
+ghost use Rattle.cb_desk.specs.steps.Walks.{IsKept, next_moves, timeline_in, turns_on};
 
 use crate::plan::Plan;
 use crate::present::Present;
@@ -63,22 +75,6 @@ impl History {
             present: Present::new(alloc, bounds, profile),
             records: Vec::new(alloc),
             done: 0,
-        }
-    }
-
-    /// A world, and the records of the changes that led to it.
-    pub(crate) fn loaded(present: Present, records: Vec<Record>) -> History
-        requires { IsRecorded
-            (record { kept = present; records = records.items; done = length records.items }) }
-        ensures timeline { timeline_in result ≡ timeline_in
-            (record { kept = present; records = records.items; done = length records.items }) }
-        ensures turns { result.kept.turns ≡ present.turns }
-    {
-        let done = records.len();
-        History {
-            present,
-            records,
-            done,
         }
     }
 
@@ -146,6 +142,8 @@ impl History {
             (timeline_in self.new) result }
         ensures turns { Turns (timeline_in self.old).present (timeline_in self.new).present
             self.old.kept.turns self.new.kept.turns result }
+        ensures moved { OnOk result (self.new.kept.turns
+            ≡ counted self.old.kept.turns (next_moves (turns_on self.old))) }
     {
         if self.done == self.records.len() {
             return Err(Refusal::NothingToRedo);
@@ -163,6 +161,7 @@ impl History {
             (λ _. timeline_in self.new ≡ record (timeline_in self.old) { future = v ∷ [] })
             (λ _. timeline_in self.new ≡ timeline_in self.old) }
         ensures turns { self.new.kept.turns ≡ self.old.kept.turns }
+        ensures next { OnOk result (turns_on self.new ≡ plan.turn ∷ []) }
     {
         self.records.reserve(1)?;
         self.present.reserve_for(&plan)?;
@@ -183,6 +182,8 @@ impl History {
             (λ _. timeline_in self.new ≡ timeline_in self.old) }
         ensures turns { Turns (timeline_in self.old).present (timeline_in self.new).present
             self.old.kept.turns self.new.kept.turns result }
+        ensures moved { OnOk result
+            (self.new.kept.turns ≡ counted self.old.kept.turns (moves plan.turn)) }
     {
         self.set_next(plan)?;
         if self.redo().is_err() {

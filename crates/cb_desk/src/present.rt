@@ -41,13 +41,13 @@ ghost use Rattle.cb_desk.specs.steps.Walks.{IsKept};
 
 mod changes;
 mod counts;
-pub(crate) mod files;
+mod files;
 mod marked_files;
 mod marks;
 mod moved;
 mod places;
 mod readers;
-pub(crate) mod refusals;
+mod refusals;
 mod remaining;
 pub(crate) mod renewal;
 mod replace;
@@ -195,28 +195,6 @@ impl Present {
             frames: PlaceList::new(alloc),
             names: 0,
             versions: 0,
-        }
-    }
-
-    /// The world of a shelf that shows `count` files, each under a name of its own.
-    pub(crate) fn loaded(alloc: Global, bounds: Bounds, shelf: Shelf, count: u32) -> Present
-        ensures now { result.now
-            ≡ record (no_numbers bounds) { shown = shelf.shown; names = count; versions = count } }
-        ensures archive { result.archive ≡ shelf.archive }
-        ensures turns { result.turns ≡ shelf.turns }
-        ensures files { result.rooms.files ≡ shelf.entry_room }
-        ensures defs { result.rooms.defs ≡ shelf.def_room }
-        ensures uses { result.rooms.uses ≡ shelf.use_room }
-        ensures calls { result.rooms.calls ≡ shelf.call_room }
-    {
-        Present {
-            bounds,
-            shelf,
-            wanted: None,
-            marks: PlaceList::new(alloc),
-            frames: PlaceList::new(alloc),
-            names: count,
-            versions: count,
         }
     }
 

@@ -1,5 +1,5 @@
 //! The state of a session.
-ghost use Rattle.std.specs.Prelude.{◌≡◌, ◌≢◌, [], IfErr, IfOk, length};
+ghost use Rattle.std.specs.Prelude.{◌≡◌, ◌≢◌, [], IfErr, IfOk, OnOk, length};
 ghost use Rattle.std.specs.Option.{option_copied, option_map};
 ghost use Rattle.cb_scan.specs.Profiles.{facts_in};
 ghost use Rattle.cb_index.specs.Rows.{calls_in, calls_of, tags_from_name, tags_named, uses_of};
@@ -24,13 +24,13 @@ ghost use Rattle.cb_desk.specs.Timeline.{
   redone,
   undone,
 };
-ghost use Rattle.cb_desk.specs.Turns.{Turns};
+ghost use Rattle.cb_desk.specs.Turns.{LoadTurns, Turns};
 ghost use Rattle.cb_desk.specs.World.{IsValidWorld, text_named};
-ghost use Rattle.cb_desk.specs.steps.Walks.{timeline_in};
 
 use crate::history::History;
 use crate::{
     Bounds, Change, Definitions, Field, Files, Format, Places, Refusal, Rows, TagRows, Uses,
+    answers,
 };
 use cb_index::{FactKind, IndexKind};
 use cb_scan::{Facts, Meter, Profile, Source, scan};
@@ -110,16 +110,6 @@ impl Desk {
         }
     }
 
-    /// The desk of a history, with the meter that counted its bytes.
-    pub(crate) fn over(history: History, meter: Meter) -> Desk
-        requires { IsValidTimeline (timeline_in history) }
-        ensures timeline { result.timeline ≡ timeline_in history }
-        ensures meter { result.meter ≡ meter }
-        ensures turns { result.turns ≡ history.kept.turns }
-    {
-        Desk { history, meter }
-    }
-
     /// Makes a change. After a refusal the files, their past and their future are as before, and
     /// the bytes of the change are dropped.
     pub fn change(&mut self, alloc: Global, change: Change<'_>) -> Result<(), Refusal>
@@ -129,6 +119,8 @@ impl Desk {
             self.old.meter self.new.meter result }
         ensures turns { Turns self.old.timeline.present self.new.timeline.present self.old.turns
             self.new.turns result }
+        ensures load { OnOk result
+            (LoadTurns (step_of change.entry) self.old.turns self.new.turns) }
     {
         // A growth can fail only after all is judged. All growths come before the first move.
         let _counted = self.meter.read();
@@ -186,7 +178,7 @@ impl Desk {
         ensures memory { IfErr result (λ r. r ≡ Refusal.OutOfMemory) }
     {
         let profile = self.profile();
-        let files = self.history.present().files();
+        let files = Files::new(self.history.present().shelf());
         scan_files(alloc, &mut self.meter, profile, files)?;
         Ok(())
     }
@@ -202,7 +194,7 @@ impl Desk {
     pub fn turns(&self) -> u64
         ensures { result ≡ self.now.turns }
     {
-        self.history.present().turns()
+        self.history.present().shelf().turns()
     }
 
     /// The profile by which all its files are scanned.
@@ -225,14 +217,14 @@ impl Desk {
         ensures valid { IsValidWorld self.now.timeline.present }
         ensures timeline { IsValidTimeline self.now.timeline }
     {
-        self.history.present().files()
+        Files::new(self.history.present().shelf())
     }
 
     /// The text of the file of that name, if there is one.
     pub fn source(&self, name: &[u8]) -> Option<&Source>
         ensures { option_copied result ≡ text_named self.now.timeline.present.files name.now }
     {
-        self.history.present().source(name)
+        answers::source(self.history.present().shelf(), name)
     }
 
     /// The text of the file of that name with what its profile finds in it, if there is one. No
@@ -241,7 +233,7 @@ impl Desk {
         ensures { option_map scanned_of result ≡ scanned_named self.now.timeline.present.profile
             self.now.timeline.present.files name.now }
     {
-        self.history.present().scanned(name)
+        answers::scanned(self.history.present().shelf(), name)
     }
 
     /// The text that is wanted, if one is.
@@ -308,7 +300,7 @@ impl Desk {
         requires { pattern.now ≢ [] }
         ensures { result ≡ answer self.now.timeline.present field pattern.now }
     {
-        self.history.present().rows(field, pattern)
+        Rows::new(self.history.present().shelf(), field, pattern)
     }
 
     /// The definitions of a name in the present world as tags, by file and place: all that the
@@ -317,7 +309,7 @@ impl Desk {
         ensures { result ≡ tags_named self.now.timeline.present.profile name.now
             self.now.timeline.present.files }
     {
-        self.history.present().definitions(name)
+        Definitions::new(self.history.present().shelf(), name)
     }
 
     /// The uses of a name in the present world, by file and place, two on one line as two. After
@@ -326,7 +318,7 @@ impl Desk {
         ensures { result ≡ uses_of self.now.timeline.present.profile name.now
             self.now.timeline.present.files }
     {
-        self.history.present().uses(name)
+        Uses::uses_of(self.history.present().shelf(), name)
     }
 
     /// The calls of a function or macro in the present world, by file and place: the name of each
@@ -336,7 +328,7 @@ impl Desk {
         ensures { result ≡ calls_of self.now.timeline.present.profile name.now
             self.now.timeline.present.files }
     {
-        self.history.present().calls_of(name)
+        Uses::calls_of(self.history.present().shelf(), name)
     }
 
     /// The calls that stand in the functions and macros of a name, by file and place, named in the
@@ -345,14 +337,15 @@ impl Desk {
         ensures { result ≡ calls_in self.now.timeline.present.profile name.now
             self.now.timeline.present.files }
     {
-        self.history.present().calls_in(name)
+        Uses::calls_in(self.history.present().shelf(), name)
     }
 
     /// All definitions of the present world as tags, in the order of a format.
+    #[tactic(auto, unfolding(crate::specs::Tags::tags))]
     pub fn tag_rows(&self, format: Format) -> TagRows<'_>
         ensures { result ≡ tags format self.now.timeline.present }
     {
-        self.history.present().tag_rows(format)
+        answers::tag_rows(self.history.present().shelf(), format)
     }
 
     /// The definitions of the present world whose names are not less than a name in the order of
@@ -362,6 +355,6 @@ impl Desk {
         ensures { result ≡ tags_from_name self.now.timeline.present.profile name.now
             self.now.timeline.present.files }
     {
-        self.history.present().tag_rows_from(name)
+        answers::tag_rows_from(self.history.present().shelf(), name)
     }
 }

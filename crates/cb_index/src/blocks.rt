@@ -125,14 +125,20 @@ impl<T: Copy + Drop> Blocks<T> {
         Ok(())
     }
 
-    /// Makes `n` blocks in all. What they have stays, also where memory is refused.
+    /// Makes `n` blocks in all. Where more are made they become an eighth more at least, so that
+    /// many blocks lie together, in memory that nothing used before. What they have stays, also
+    /// where memory is refused.
     pub(crate) fn reserve(&mut self, n: usize) -> Result<(), OutOfMemory>
         ensures ok { OnOk result (n ≤ self.new.count) }
         ensures used { self.new.used ≡ self.old.used }
         ensures count { self.old.count ≤ self.new.count }
     {
         let mut count = self.count();
-        while count < n {
+        if n <= count {
+            return Ok(());
+        }
+        let all = n.max(count.saturating_add(count / 8));
+        while count < all {
             match self.grow() {
                 Ok(()) => {}
                 Err(_) => return Err(OutOfMemory),

@@ -3,19 +3,14 @@ use Rattle.std.proofs.Common.{◌≡◌, ◌≤◌, ◌+◌, ◌-◌, ◌^◌, �
 use Rattle.std.proofs.Common.{Result, Ok, Err, IsOk, refl, ap, ◌∙◌, arith, sym, subst}
 use Rattle.cb_desk.specs.declared.refusal.Refusal.{Refusal}
 use Rattle.cb_desk.specs.declared.refusal.Refusal.TheVariants.{OutOfMemory}
-use Rattle.cb_desk.specs.World.{File, World, WorldBounds}
+use Rattle.cb_desk.specs.World.{File, WorldBounds}
 use Rattle.cb_desk.specs.Step.{load, step}
 use Rattle.cb_desk.specs.Timeline.{Timeline, Changes, judged, changed, new_timeline}
-use Rattle.cb_desk.specs.Desk.{Counts, bytes_in, counted}
-use Rattle.cb_desk.specs.steps.Loading.{Loaded}
+use Rattle.cb_desk.specs.Desk.{Counts, DeskState, bytes_in, counted}
 use Rattle.cb_desk.proofs.Counted.{counted_bound, counted_none, counted_twice}
-use Rattle.cb_session.specs.declared.input.Ended.{Ended}
-use Rattle.cb_session.specs.declared.input.Ended.TheVariants.{Done, Cut, Fault}
-use Rattle.cb_session.specs.declared.input.Ended.TheVariants.{Operand as StoppedAt}
-use Rattle.cb_session.specs.Operands.{RefusedOperand, Loads, Prepares, all_loaded, first_loaded}
+use Rattle.cb_session.specs.Operands.{RefusedOperand, Loads, LoadsAll, all_loaded, first_loaded}
 use Rattle.cb_session.specs.Operands.{first_refused, memory_refused}
-use Rattle.cb_session.specs.States.{State}
-use Rattle.cb_session.specs.steps.Starts.{Starts}
+use Rattle.cb_session.specs.States.{State, state_of}
 use Rattle.cb_desk.proofs.Moves.{advanced-Ok}
 use Rattle.cb_scan.specs.declared.profile.Profile.{Profile}
 
@@ -89,13 +84,10 @@ module _ (place : ℕ) (start t u : Timeline) (all left rest : List File) (f : F
       (subst (λ fs. Loads place t fs (Err (record { place = place; why = r }))) (sym first)
       (refused place t u f rest r changes))
 
-ends : (place : ℕ) (start t u : Timeline) (all left : List File) → Goes place start t all left
-    → length left ≡ 0 → u ≡ t → Loads 0 start all (Ok u)
-ends place start t u all [] goes none same =
-    subst (λ v. Loads 0 start all (Ok v)) (sym same) (goes (Ok t) all_loaded)
-ends place start t u all (f ∷ fs) goes none same = absurd (omega (arith, none))
-
--- ---- memory that is refused to the last one
+ends : (place : ℕ) (start t : Timeline) (all left : List File) → Goes place start t all left
+    → length left ≡ 0 → Loads 0 start all (Ok t)
+ends place start t all [] goes none = goes (Ok t) all_loaded
+ends place start t all (f ∷ fs) goes none = absurd (omega (arith, none))
 
 -- each load joins the past
 pub past_of_all : (place : ℕ) (t u : Timeline) (fs : List File)
@@ -111,34 +103,6 @@ past_of_all place t u (f ∷ fs) end is (first_loaded {u = v} made rest) =
     omega (arith, grown, later)
 past_of_all place t u (f ∷ fs) end is (first_refused why) = cc
 past_of_all place t u (f ∷ fs) end is (memory_refused would) = cc
-
-last_of_all : (place : ℕ) (t u : Timeline) (f : File) (fs : List File)
-    (end : Result Timeline RefusedOperand) → end ≡ Ok u → Loads place t (f ∷ fs) end
-    → (n : ℕ) → n ≡ place + length fs
-    → Loads place t (f ∷ fs) (Err (record { place = n; why = OutOfMemory }))
-last_of_all place t u f [] end is (first_loaded {u = v} made rest) n e =
-    let here : place ≡ n = omega (arith, e) in
-    subst (λ m. Loads place t (f ∷ []) (Err (record { place = m; why = OutOfMemory }))) here
-    (memory_refused (subst IsOk (sym made) refl))
-last_of_all place t u f (g ∷ fs) end is (first_loaded {u = v} made rest) n e =
-    first_loaded made (last_of_all (place + 1) v u g fs end is rest n (omega (arith, e)))
-last_of_all place t u f fs end is (first_refused why) n e = cc
-last_of_all place t u f fs end is (memory_refused would) n e = cc
-
-last_refused : (p : Profile) (b : WorldBounds) (u : Timeline) (all : List File) (n : ℕ)
-    → Loads 0 (new_timeline p b) all (Ok u)
-    → n + 1 ≡ length u.past
-    → Loads 0 (new_timeline p b) all (Err (record { place = n; why = OutOfMemory }))
-last_refused p b u [] n loads long =
-    let none = past_of_all 0 (new_timeline p b) u [] (Ok u) refl loads in
-    absurd (omega (arith, none, long))
-last_refused p b u (f ∷ fs) n loads long =
-    let count = past_of_all 0 (new_timeline p b) u (f ∷ fs) (Ok u) refl loads in
-    last_of_all 0 (new_timeline p b) u f fs (Ok u) refl loads n (omega (arith, count, long))
-
-long_past : (ws : List World) → (ws ≡ [] → ⊥) → 1 ≤ length ws
-long_past [] some = absurd (some refl)
-long_past (w ∷ ws) some = omega arith
 
 -- ---- what the loads scan
 
@@ -156,40 +120,33 @@ pub scans_bound : (m n : ℕ) (f : File) (x : Unit {0})
     → Counts {A = Unit {0}} (length f.bytes) m n (Ok x) → n ≤ 2 ^ 64 - 1
 scans_bound m n f x is = subst (λ k. k ≤ 2 ^ 64 - 1) (sym is) (counted_bound m (length f.bytes))
 
--- all loads are made, and then they are shown
+-- ---- how often a file is shown
+
+-- a load that was made has shown its file
+pub shows_next : (place m n : ℕ) → m ≡ counted 0 place → n ≡ counted m 1
+    → n ≡ counted 0 (place + 1)
+shows_next place m n so_far one = one ∙ ap (λ k. counted k 1) so_far ∙ counted_twice 0 place 1
+
+-- ---- all loads are made
 no_files : (fs : List File) → length fs ≡ 0 → fs ≡ []
 no_files [] none = refl
 no_files (f ∷ fs) none = absurd (omega (arith, none))
 
-pub starts_all : (p : Profile) (b : WorldBounds) (l : Loaded) (place : ℕ) (all left : List File)
-    (r : Result State Ended)
-    → Goes place (new_timeline p b) l.timeline all left → length left ≡ 0
-    → place ≡ length l.timeline.past
-    → counted l.meter (bytes_in left) ≡ counted 0 (bytes_in all)
-    → l.meter ≤ 2 ^ 64 - 1 → l.turns ≡ 0
-    → Starts l place r → Prepares p b all r
-starts_all p b l place all left (Ok s) goes none placed scanned fits hidden is =
-    let loads : Loads 0 (new_timeline p b) all (Ok s.timeline) =
-    ends place (new_timeline p b) l.timeline s.timeline all left goes none is.0 in
-    let many : length s.timeline.past ≡ 0 + length all =
-    past_of_all 0 (new_timeline p b) s.timeline all (Ok s.timeline) refl loads in
-    let same : length s.timeline.past ≡ length l.timeline.past =
-    ap (λ (t : Timeline). length t.past) is.0 in
-    let count : place ≡ length all = omega (arith, many, same, placed) in (
+pub all_loaded_start : (p : Profile) (b : WorldBounds) (d : DeskState) (s : State) (place : ℕ)
+    (all left : List File) → s ≡ state_of d
+    → Goes place (new_timeline p b) d.timeline all left → length left ≡ 0
+    → place ≡ length d.timeline.past
+    → counted d.meter (bytes_in left) ≡ counted 0 (bytes_in all)
+    → d.meter ≤ 2 ^ 64 - 1 → d.turns ≡ counted 0 place → LoadsAll p b all (Ok s)
+all_loaded_start p b d s place all left is goes none placed scanned fits shown =
+    let loads : Loads 0 (new_timeline p b) all (Ok d.timeline) =
+    ends place (new_timeline p b) d.timeline all left goes none in
+    let many : length d.timeline.past ≡ 0 + length all =
+    past_of_all 0 (new_timeline p b) d.timeline all (Ok d.timeline) refl loads in
+    let count : place ≡ length all = omega (arith, many, placed) in
+    subst (λ t. LoadsAll p b all (Ok t)) (sym is) (
       loads,
-      is.1 ∙ sym (counted_none l.meter fits)
-          ∙ ap (λ fs. counted l.meter (bytes_in fs)) (sym (no_files left none)) ∙ scanned,
-      is.2 ∙ (λ i. counted (hidden i) (count i)),
+      sym (counted_none d.meter fits)
+          ∙ ap (λ fs. counted d.meter (bytes_in fs)) (sym (no_files left none)) ∙ scanned,
+      shown ∙ ap (counted 0) count,
     )
-starts_all p b l place all left (Err (StoppedAt at why)) goes none placed scanned fits hidden is =
-    let last = is.0 in
-    let loads : Loads 0 (new_timeline p b) all (Err (record { place = at; why = OutOfMemory })) =
-    last_refused p b l.timeline all
-    at (ends place (new_timeline p b) l.timeline l.timeline all left goes none refl)
-    (omega (arith, last, placed)) in
-    subst (λ w. Loads 0 (new_timeline p b) all (Err (record { place = at; why = w }))) (sym is.1)
-    loads
-starts_all p b l place all left (Err Done) goes none placed scanned fits hidden is = absurd is
-starts_all p b l place all left (Err Cut) goes none placed scanned fits hidden is = absurd is
-starts_all p b l place all left (Err (Fault fault)) goes none placed scanned fits hidden is =
-    absurd is

@@ -1,5 +1,5 @@
 -- Texts that a writer has taken, and faults that were passed on.
-use Rattle.std.proofs.Common.{◌≡◌, List, [], ◌∷◌, ◌++◌, Result, Ok, Err, ℕ, refl, sym, subst}
+use Rattle.std.proofs.Common.{◌≡◌, List, [], ◌∷◌, ◌++◌, Result, Ok, Err, ℕ, sym, subst}
 use Rattle.std.proofs.Common.{append_assoc, append-nil, ap, ◌∙◌}
 use Rattle.std.specs.Prelude.{IsErrAnd}
 use Rattle.std.specs.List.{flat_map}
@@ -7,7 +7,7 @@ use Rattle.cb_session.specs.declared.input.Fault.{Fault}
 use Rattle.cb_session.specs.declared.input.Fault.TheVariants.{Write}
 use Rattle.cb_tags.specs.Writers.{Writer}
 use Rattle.cb_tags.specs.Writing.{PutsAll, PutsPrefix}
-use Rattle.cb_tags.proofs.Prefixes.{PutsAll-none, PutsAll-after, PutsPrefix-after, PutsPrefix-more}
+use Rattle.cb_tags.proofs.Prefixes.{PutsAll-after, PutsPrefix-after, PutsPrefix-more}
 use Rattle.cb_session.specs.Writing.{Puts}
 
 -- the fault of a writer that was passed on
@@ -37,10 +37,6 @@ pub record Written {X : Type 0} (f : X → List ℕ) (old out : Writer)
   pub so_far : List ℕ
   pub wrote : PutsAll old out so_far
   pub rest : so_far ++ flat_map f left ≡ flat_map f all
-
-pub Written-start : {X : Type 0} (f : X → List ℕ) (old : Writer) (all : List X)
-    → Written f old old all all
-Written-start f old all = record { so_far = []; wrote = PutsAll-none old; rest = refl }
 
 -- the next element
 pub Written-more : {X : Type 0} (f : X → List ℕ) (old out new : Writer) (left rest all : List X)
@@ -81,12 +77,6 @@ abbrev pub WrittenAfter : {X : Type 0} → List ℕ → (X → List ℕ) → Wri
     → List X → List X → Type 0
 WrittenAfter first f old out left all =
     (mid : Writer) × PutsAll old mid first × Written f mid out left all
-
-pub WrittenAfter-start : {X : Type 0} (first : List ℕ) (f : X → List ℕ) (old out : Writer)
-    (left all : List X) → PutsAll old out first → left ≡ all
-    → WrittenAfter first f old out left all
-WrittenAfter-start first f old out left all p same =
-    (out, p, subst (λ l. Written f out out l all) (sym same) (Written-start f out all))
 
 pub WrittenAfter-more : {X : Type 0} (first : List ℕ) (f : X → List ℕ) (old out new : Writer)
     (left rest all : List X) (x : X)

@@ -22,7 +22,7 @@ use Rattle.cb_session.specs.Commands.{short_line}
 use Rattle.cb_session.specs.Inputs.{is_line_feed, first, with_block, line_asks}
 use Rattle.cb_session.specs.Requests.{whole, refused, overlong}
 use Rattle.cb_session.specs.steps.Lines.{ReadsLine, line_of_length}
-use Rattle.cb_tags.proofs.Follows.{HasRead-nothing, HasRead-trans, Follows-ended, Follows-failed}
+use Rattle.cb_tags.proofs.Follows.{HasRead-trans, Follows-ended, Follows-failed}
 
 -- no line feed is among the bytes
 abbrev pub IsPlain : List ℕ → Type 0
@@ -100,15 +100,6 @@ pub record Seen (old new : Reader) (line : List ℕ) (read : ℕ) : Type 0 where
   pub count : length bytes ≡ read
   pub taken : HasRead old new bytes
   pub kept : line ≡ take MOST_LINE bytes
-
-pub Seen-nothing : (feed : Reader) (line : List ℕ) → line ≡ [] → Seen feed feed line 0
-Seen-nothing feed line e = record {
-  bytes = [];
-  plain = tt;
-  count = refl;
-  taken = HasRead-nothing feed;
-  kept = e ∙ sym (take_all MOST_LINE [] (omega arith));
-}
 
 plain_byte : (b : ℕ) → b ≢ 10 → is_line_feed b ≡ false
 plain_byte b h = grind (arith, nat_tests)

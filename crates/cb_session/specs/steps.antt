@@ -1,4 +1,3 @@
 pub mod Lines
 pub mod Rounds
-pub mod Starts
 pub mod Words

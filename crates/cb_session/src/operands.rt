@@ -1,12 +1,11 @@
 //! Files that are loaded before a run.
-ghost use Rattle.std.specs.Prelude.{◌≡◌, List, ℕ, Some, length, map};
+ghost use Rattle.std.specs.Prelude.{◌≡◌, List, ℕ, Some, map};
 ghost use Rattle.cb_tags.specs.Readers.{WhateverFollows};
 ghost use Rattle.cb_session.specs.Serving.{HandsOn, HasFailed, IfFault, Tells, fault_of};
 ghost use Rattle.cb_session.specs.Operands.{file_of_operand, Prepares, Runs};
-ghost use Rattle.cb_session.specs.steps.Starts.{Starts};
 
 use crate::{Ended, Limits, Session};
-use cb_desk::{Bounds, Loading, Refusal};
+use cb_desk::{Bounds, Change, Desk};
 use cb_scan::Profile;
 use cb_tags::{Feed, Sink};
 use std::alloc::Global;
@@ -23,9 +22,7 @@ pub struct Operand {
 pub type Operands = Vec<Operand>;
 
 /// A session within these bounds, and by a profile, in which the operands are loaded, each as a
-/// change that can be taken back. The first refusal ends it; memory that is refused when all are
-/// there is refused to
-/// the last one.
+/// change that can be taken back. The first refusal ends it.
 pub fn prepare(
     alloc: Global,
     bounds: Bounds,
@@ -34,28 +31,17 @@ pub fn prepare(
 ) -> Result<Session, Ended>
     ensures { Prepares profile bounds (map file_of_operand operands.items) result }
 {
-    let mut loading = Loading::new(alloc, bounds, profile);
+    let mut desk = Desk::new(alloc, bounds, profile);
     let mut place = 0u32;
     for operand in operands {
         let Operand { name, bytes } = operand;
-        match loading.load(alloc, name.as_slice(), bytes) {
+        match desk.change(alloc, Change::Load(name.as_slice(), bytes)) {
             Ok(()) => {}
             Err(refusal) => return Err(Ended::Operand(place, refusal)),
         }
         place += 1;
     }
-    session_of(alloc, loading, place)
-}
-
-/// The session after these loads. Memory that is refused here is refused to the last of them.
-fn session_of(alloc: Global, loading: Loading, count: u32) -> Result<Session, Ended>
-    requires { count ≡ length loading.timeline.past }
-    ensures { Starts loading count result }
-{
-    match loading.desk(alloc) {
-        Ok(desk) => Ok(Session::over(desk)),
-        Err(_) => Err(Ended::Operand(count - 1, Refusal::OutOfMemory)),
-    }
+    Ok(Session::over(desk))
 }
 
 /// Loads the operands, and then prompts, reads and replies until the run ends.

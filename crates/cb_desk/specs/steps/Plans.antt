@@ -1,6 +1,6 @@
 -- What a change brings to the archive, and the turn to the new world.
 use Rattle.std.specs.Prelude.{◌≡◌, ◌<◌, ℕ, Bool, List, ◌++◌, map, take, filter, nat_eq, not}
-use Rattle.std.specs.Prelude.{slice_get, Option, Some, if◌then◌else◌}
+use Rattle.std.specs.Prelude.{slice_get, Option, Some, if◌then◌else◌, ⊤}
 use Rattle.std.specs.List.{AllByRecursion}
 use Rattle.std.specs.Str.{bytes_eq}
 use Rattle.cb_scan.specs.declared.profile.Profile.{Profile}
@@ -8,9 +8,10 @@ use Rattle.cb_index.specs.Archived.{Archived, name_of}
 use Rattle.cb_index.specs.Scanned.{Scanned}
 use Rattle.cb_index.specs.declared.entry.Shown.{Shown}
 use Rattle.cb_desk.specs.declared.spot.NumberedPlace.{NumberedPlace}
+use Rattle.cb_desk.specs.Step.{Step, load}
 use Rattle.cb_desk.specs.steps.Edits.{Edits, edited, turned_edits}
 use Rattle.cb_desk.specs.steps.Records.{AreThere, Fits, IsTurn, Kept, Numbered, Rooms, Turn, other}
-use Rattle.cb_desk.specs.steps.Records.{other_wanted, place_in, world_in}
+use Rattle.cb_desk.specs.steps.Records.{moves, other_wanted, place_in, world_in}
 use Rattle.cb_desk.specs.steps.Walks.{IsNext, UsesAll}
 use Rattle.cb_desk.specs.World.{World, place_key}
 
@@ -44,6 +45,11 @@ pub record LeadsTo (k : Kept) (p : Planned) (v : World) (a : Archived) : Type 0 
   pub world : world_in a (other a p.turn k.now) ≡ v
   pub next : IsNext k.now (other a p.turn k.now)
   pub all : UsesAll a (other a p.turn k.now)
+
+-- the turn of a load shows one file, and hides none
+abbrev pub MovesOne : Step → Turn → Type 0
+MovesOne (load name bytes) t = moves t ≡ 1
+MovesOne _ t = ⊤
 
 -- the new texts have the profile of the archive, and the turn leads to that world in every archive
 -- that keeps them

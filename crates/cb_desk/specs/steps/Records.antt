@@ -40,6 +40,10 @@ pub record Turn : Type 0 where
   pub names : ℕ
   pub versions : ℕ
 
+-- how many files a turn shows and hides
+abbrev pub moves : Turn → ℕ
+moves t = length t.hides + length t.shows
+
 -- the place, and the world, that numbers stand for
 abbrev pub place_in : Archived → NumberedPlace → Place
 place_in a p = record { file = name_of a p.name; line = p.line }
@@ -98,7 +102,7 @@ turned t w = record {
 
 -- files are hidden and shown at most twice, and twice more for each that differs or has a mark
 abbrev pub AreFew : Turn → World → World → Type 0
-AreFew t v w = length t.hides + length t.shows ≤ 2 + 2 * length (touched v w)
+AreFew t v w = moves t ≤ 2 + 2 * length (touched v w)
 
 -- on the way there and back
 pub record IsFew (a : Archived) (t : Turn) (w : Numbered) : Type 0 where

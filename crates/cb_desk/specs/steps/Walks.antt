@@ -8,7 +8,7 @@ use Rattle.cb_index.specs.declared.entry.Shown.{Shown}
 use Rattle.cb_desk.specs.Timeline.{Timeline, IsValidTimeline}
 use Rattle.cb_desk.specs.World.{World}
 use Rattle.cb_desk.specs.steps.Records.{AreThere, Fits, IsTurn, Kept, Numbered, Rooms}
-use Rattle.cb_desk.specs.steps.Records.{Turn, other, world_in}
+use Rattle.cb_desk.specs.steps.Records.{Turn, moves, other, world_in}
 
 -- the worlds that some turns lead to, one after another
 abbrev pub walk : Archived → Numbered → List Turn → List Numbered
@@ -78,6 +78,11 @@ timeline_in h = record {
   present = world_in h.kept.archive h.kept.now;
   future = worlds_in h.kept.archive (walk h.kept.archive h.kept.now (turns_on h));
 }
+
+-- how many files the next turn shows and hides
+abbrev pub next_moves : List Turn → ℕ
+next_moves [] = 0
+next_moves (t ∷ ts) = moves t
 
 -- all worlds of the timeline, in numbers
 abbrev pub worlds_of : Recorded → List Numbered

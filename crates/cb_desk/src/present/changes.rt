@@ -18,8 +18,8 @@ ghost use Rattle.cb_desk.specs.Stack.{push_refusal, pushed};
 ghost use Rattle.cb_desk.specs.Step.{after, place_of, refusal_of};
 ghost use Rattle.cb_desk.specs.World.{IsValidWorld};
 ghost use Rattle.cb_desk.specs.declared.spot.NumberedPlace.{NumberedPlace};
-ghost use Rattle.cb_desk.specs.steps.Plans.{IsPlan};
-ghost use Rattle.cb_desk.specs.steps.Records.{place_in, world_in};
+ghost use Rattle.cb_desk.specs.steps.Plans.{IsPlan, MovesOne};
+ghost use Rattle.cb_desk.specs.steps.Records.{moves, place_in, world_in};
 ghost use Rattle.cb_desk.specs.steps.Still.{IsStill};
 ghost use Rattle.cb_desk.specs.steps.Walks.{IsKept};
 
@@ -91,6 +91,7 @@ impl Present {
             name.now bytes.items ≡ None }
         ensures plan { IfOk result (λ p. IsPlan self.now p
             (loaded (world_in self.now.archive self.now.now) name.now bytes.items)) }
+        ensures one { IfOk result (λ p. moves p.turn ≡ 1) }
         ensures meter { CountsUpTo (length bytes.items) meter.old meter.new result }
     {
         let _counted = meter.read();
@@ -195,6 +196,7 @@ impl Present {
             ≡ None }
         ensures plan { IfOk result (λ p. IsPlan self.now p
             (after (world_in self.now.archive self.now.now) (step_of change.entry))) }
+        ensures one { IfOk result (λ p. MovesOne (step_of change.entry) p.turn) }
         ensures meter { CountsUpTo (scanned (world_in self.now.archive self.now.now)
             (step_of change.entry)) meter.old meter.new result }
     {

@@ -6,7 +6,7 @@ ghost use Rattle.cb_desk.specs.Files.{loaded, reloaded, renamed, unloaded};
 ghost use Rattle.cb_desk.specs.World.{has_file};
 ghost use Rattle.cb_desk.specs.steps.Edits.{IsDifference};
 ghost use Rattle.cb_desk.specs.steps.Plans.{IsAmong, IsPlan, places_without};
-ghost use Rattle.cb_desk.specs.steps.Records.{world_in};
+ghost use Rattle.cb_desk.specs.steps.Records.{moves, world_in};
 ghost use Rattle.cb_desk.specs.steps.Walks.{IsKept};
 
 use crate::new_versions::NewVersions;
@@ -52,7 +52,7 @@ fn edits_without(
 }
 
 /// A list of one.
-pub(crate) fn only_one<T: Drop>(alloc: Global, one: T) -> Result<Vec<T>, AllocError>
+fn only_one<T: Drop>(alloc: Global, one: T) -> Result<Vec<T>, AllocError>
     ensures { IfOk result (λ list. list.items ≡ one ∷ []) }
 {
     let mut list = Vec::with_capacity(alloc, 1)?;
@@ -98,8 +98,9 @@ impl Present {
         requires kept { IsKept self.now.rooms self.now.archive self.now.now }
         requires fresh { has_file (files_of self.now.archive self.now.now.shown) name.now ≡ false }
         requires profile { version.profile ≡ self.now.archive.profile }
-        ensures { IfOk result (λ p. IsPlan self.now p
+        ensures plan { IfOk result (λ p. IsPlan self.now p
             (loaded (world_in self.now.archive self.now.now) name.now version.bytes)) }
+        ensures one { IfOk result (λ p. moves p.turn ≡ 1) }
     {
         let _shown = self.shelf.shown();
         let new = Shown {

@@ -5,7 +5,7 @@ ghost use Rattle.cb_index.specs.Files.{files_of};
 ghost use Rattle.cb_desk.specs.Files.{load_refusal, reload_refusal, rename_refusal, unload_refusal};
 ghost use Rattle.cb_desk.specs.Marks.{mark_all_refusal, mark_refusal, want_refusal};
 ghost use Rattle.cb_desk.specs.Stack.{pop_refusal, push_refusal};
-ghost use Rattle.cb_desk.specs.World.{World, has_file, is_short};
+ghost use Rattle.cb_desk.specs.World.{has_file, is_short};
 ghost use Rattle.cb_desk.specs.steps.Records.{place_in, world_in};
 
 use crate::answers::shown_as;
@@ -42,30 +42,6 @@ pub(super) fn want_refusal(text: &[u8]) -> Option<Refusal>
     }
 }
 
-/// Why a file can't be loaded beside so many others, if it can't: the lowest refusal that applies.
-pub(crate) fn load_refusal(
-    bounds: Bounds,
-    count: usize,
-    exists: bool,
-    name: &[u8],
-    bytes: &[u8],
-) -> Option<Refusal>
-    ensures { (w : World) → w.bounds ≡ bounds → length w.files ≡ count
-        → has_file w.files name.now ≡ exists → result ≡ load_refusal w name.now bytes.now }
-{
-    if !is_file_name(name) {
-        Some(Refusal::BadName)
-    } else if exists {
-        Some(Refusal::FileExists)
-    } else if is_large(bounds, bytes) {
-        Some(Refusal::TooLarge)
-    } else if count >= bounds.files() as usize {
-        Some(Refusal::TooManyFiles)
-    } else {
-        None
-    }
-}
-
 impl Present {
     /// Whether there is a file of that name.
     fn has_file(&self, name: &[u8]) -> bool
@@ -80,7 +56,17 @@ impl Present {
             ≡ load_refusal (world_in self.now.archive self.now.now) name.now bytes.now }
     {
         let count = self.shelf.shown().len();
-        load_refusal(self.bounds, count, self.has_file(name), name, bytes)
+        if !is_file_name(name) {
+            Some(Refusal::BadName)
+        } else if self.has_file(name) {
+            Some(Refusal::FileExists)
+        } else if is_large(self.bounds, bytes) {
+            Some(Refusal::TooLarge)
+        } else if count >= self.bounds.files() as usize {
+            Some(Refusal::TooManyFiles)
+        } else {
+            None
+        }
     }
 
     /// Why the file can't have these bytes, if it can't: the lowest refusal that applies.

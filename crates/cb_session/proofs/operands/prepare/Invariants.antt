@@ -7,15 +7,15 @@ use Rattle.cb_session.proofs.operands.prepare.Given as goal
 
 abbrev pub invariant-loop-operand : goal.invariant-loop-operand
 invariant-loop-operand l = record {
-  goes : (end : Result Timeline RefusedOperand) → Loads l.place l.loading.timeline
+  goes : (end : Result Timeline RefusedOperand) → Loads l.place l.desk.timeline
       (map file_of_operand (into_iter_items l.operand-iterator)) end
       → Loads 0 (new_timeline l.fn.profile l.fn.bounds) (map file_of_operand l.fn.operands.items)
       end;
-  placed : l.place ≡ length l.loading.timeline.past;
-  scanned : counted l.loading.meter
+  placed : l.place ≡ length l.desk.timeline.past;
+  scanned : counted l.desk.meter
       (bytes_in (map file_of_operand (into_iter_items l.operand-iterator)))
       ≡ counted 0 (bytes_in (map file_of_operand l.fn.operands.items));
-  fits : l.loading.meter ≤ 2 ^ 64 - 1;
-  hidden : l.loading.turns ≡ 0;
+  fits : l.desk.meter ≤ 2 ^ 64 - 1;
+  shown : l.desk.turns ≡ counted 0 l.place;
   counted : into_iter_len l.operand-iterator ≡ length (into_iter_items l.operand-iterator);
 }

@@ -2,7 +2,7 @@ use Rattle.std.proofs.Common.{rules, ap}
 use Rattle.cb_desk.specs.Timeline.{Timeline}
 use Rattle.cb_desk.specs.steps.Walks.{timeline_in}
 use Rattle.cb_desk.proofs.PlanLemmas.{redone_next, redone_not_refused, refused_as}
-use Rattle.cb_desk.proofs.TurnsCounted.{turns_next, turns_refused}
+use Rattle.cb_desk.proofs.TurnsCounted.{moved_next, turns_next, turns_refused}
 use Rattle.cb_desk.proofs.history.History.go.Goals as goal
 
 pub returns-in_err-set_next-clause-timeline : goal.returns-in_err-set_next-clause-timeline
@@ -33,3 +33,8 @@ returns-clause-turns c =
     let next = c.in_ok-set_next.ensures.timeline c.requires.0 c.requires.1 in
     turns_next _ _ _ _ _ _ c.redo.result (ap (λ (t : Timeline). t.present) next)
     c.set_next.ensures.turns (search rules) c.redo.ensures.turns
+
+pub returns-clause-moved : goal.returns-clause-moved
+returns-clause-moved c =
+    moved_next _ _ _ _ _ c.redo.result c.set_next.ensures.turns c.in_ok-set_next.ensures.next
+    (search rules) c.redo.ensures.moved

@@ -1,10 +1,12 @@
 use Rattle.std.proofs.Common.{rules, ◌≡◌, ◌∙◌, ap, sym, subst, length, refl}
 use Rattle.cb_desk.specs.Timeline.{redone}
-use Rattle.cb_desk.specs.steps.Walks.{Recorded, timeline_in}
+use Rattle.cb_desk.specs.Desk.{counted}
+use Rattle.cb_desk.specs.steps.Walks.{Recorded, next_moves, timeline_in, turns_on}
 use Rattle.cb_desk.specs.Turns.{AreTurnsOf}
 use Rattle.cb_desk.specs.steps.Records.{IsTurn, world_in}
 use Rattle.cb_desk.proofs.TurnsCounted.{turn_counted}
-use Rattle.cb_desk.proofs.WalkLemmas.{redo_turn, redo_kept, redo_is, redo_recorded, redo_nothing}
+use Rattle.cb_desk.proofs.WalkLemmas.{on_first, redo_turn, redo_kept, redo_is, redo_recorded}
+use Rattle.cb_desk.proofs.WalkLemmas.{redo_nothing}
 use Rattle.cb_desk.proofs.history.History.redo.Goals as goal
 
 pub returns-then-self-len-clause-timeline : goal.returns-then-self-len-clause-timeline
@@ -67,3 +69,13 @@ returns-clause-turns c =
     (turn_counted c.self.inside.present c.turn.new.self c.index_mut.result.now turn
     c.turn.ensures.archive c.turn.ensures.now c.turn.ensures.turns
     c.turn.ensures.rise)
+
+-- the turn that is made is the next one
+pub returns-clause-moved : goal.returns-clause-moved
+returns-clause-moved c =
+    let next =
+    on_first c.self.inside.present c.self.inside.records.items c.self.inside.done
+    c.index_mut.result.now (search rules) c.index_mut.ensures.value in
+    c.turn.ensures.turns
+    ∙ ap (λ ts. counted c.self.inside.present.turns (next_moves ts)) (sym next)
+    ∙ ap (λ (h : Recorded). counted h.kept.turns (next_moves (turns_on h))) c.self.view_is

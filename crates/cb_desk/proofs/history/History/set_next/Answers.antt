@@ -1,9 +1,10 @@
 use Rattle.std.proofs.Common.{rules, ◌≡◌, ◌∙◌, ◌++◌, ◌∷◌, [], ap, sym, subst, take, length, ◌<◌}
 use Rattle.cb_desk.specs.Timeline.{Timeline}
 use Rattle.cb_desk.specs.steps.Plans.{IsPlan, Keeps, Planned}
-use Rattle.cb_desk.specs.steps.Walks.{IsRecorded, Recorded, timeline_in}
+use Rattle.cb_desk.specs.steps.Walks.{IsRecorded, Recorded, timeline_in, turns_on}
 use Rattle.cb_desk.proofs.ArchiveMoves.{same_recorded, same_timeline}
-use Rattle.cb_desk.proofs.PlanLemmas.{next_is, next_recorded, plan_moved, refused_as, room_moved}
+use Rattle.cb_desk.proofs.PlanLemmas.{next_is, next_recorded, on_is, plan_moved, refused_as}
+use Rattle.cb_desk.proofs.PlanLemmas.{room_moved}
 use Rattle.cb_desk.proofs.WalkLemmas.{kept_back}
 use Rattle.cb_desk.proofs.history.History.set_next.Goals as goal
 
@@ -118,3 +119,16 @@ returns-clause-timeline c v leads =
     ∙ next_is m c.keep.new.self records done c.args.plan c.self.invariant.within keeps
     c.keep.ensures.now c.keep.ensures.rooms is v plan
     ∙ ap {A = Timeline} (λ t. record t { future = v ∷ [] }) same
+
+-- no other turn is to come
+pub returns-clause-next : goal.returns-clause-next
+returns-clause-next c =
+    let m = c.reserve_for.new.self in
+    let records = c.self.inside.records.items in
+    let done = c.self.inside.done in
+    let keeps : Keeps m.archive m.now c.args.plan c.keep.new.self.archive =
+    record { profile = search rules; names = search rules; texts = search rules } in
+    let items : c.push.new.self.items ≡ take done records ++ c.args.plan.turn ∷ [] = search rules in
+    ap (λ ts. turns_on (record { kept = c.keep.new.self; records = ts; done = done })) items
+    ∙ on_is m c.keep.new.self records done c.args.plan c.self.invariant.within keeps
+    c.keep.ensures.now c.keep.ensures.rooms

@@ -109,3 +109,6 @@ pub returns-in-Pop-clause-meter : goal.returns-in-Pop-clause-meter
 returns-in-Pop-clause-meter c =
     rw c.in-Pop.is (counts_none c.plan_pop.result c.args.meter.now _ c.read-counted.ensures
     c.read-counted.type_inv)
+
+pub returns-in-Load-clause-one : goal.returns-in-Load-clause-one
+returns-in-Load-clause-one c = rw c.in-Load.is c.plan_to_load.ensures.one

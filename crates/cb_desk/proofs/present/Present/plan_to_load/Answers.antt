@@ -20,4 +20,4 @@ returns-clause-plan c =
     ok_along (λ p. IsPlan k p (loaded w name c.in_ok-version.version.bytes))
     (λ p. IsPlan k p (loaded w name c.args.bytes.items)) c.plan_load.result
     (λ p is. subst (λ text. IsPlan k p (loaded w name text)) c.in_ok-version.ensures.value is)
-    c.plan_load.ensures
+    c.plan_load.ensures.plan

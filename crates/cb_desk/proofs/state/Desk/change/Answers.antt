@@ -10,9 +10,9 @@ use Rattle.cb_desk.specs.steps.Plans.{IsPlan}
 use Rattle.cb_desk.specs.steps.Records.{Kept, world_in}
 use Rattle.cb_desk.specs.steps.Walks.{timeline_in}
 use Rattle.cb_desk.proofs.Counted.{refused_after, refused_between, refused_counts}
-use Rattle.cb_desk.proofs.LoadingLemmas.{below_most}
-use Rattle.cb_desk.proofs.Moves.{refused, full, moved_on-valid, no-memory, valid-after, done}
+use Rattle.cb_desk.proofs.Moves.{below_most, refused, full, moved_on-valid, no-memory, valid-after, done}
 use Rattle.cb_desk.proofs.StepsValid.{after-bounds, after-profile}
+use Rattle.cb_desk.proofs.TurnsCounted.{load_turns}
 use Rattle.cb_desk.proofs.state.Desk.change.Goals as goal
 
 abbrev world_of : Kept → World
@@ -215,3 +215,9 @@ invariant_of-self-2 c =
       after-bounds w s ∙ ap (λ (x : World). x.bounds) own,
     )
     short)
+
+pub returns-clause-load : goal.returns-clause-load
+returns-clause-load c =
+    load_turns (step_of c.args.change) c.in_ok-plan.plan.turn _ _ _
+    (c.place_of-place.ensures.still.turns ∙ ap (λ (d : DeskState). d.turns) c.self.view_is)
+    c.in_ok-go.ensures.moved c.in_ok-plan.ensures.one
