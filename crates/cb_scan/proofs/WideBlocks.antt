@@ -120,10 +120,12 @@ module _ (p : Pass) (x : WideToken) (xs : List WideToken) (other : is_brace x �
 
   pub lists_in_block : (l : Lists) → next_lists l p xs x ≡ l
   lists_in_block l =
-      let found : record l { defs = l.defs ++ [] } ≡ next_lists l p xs x =
-      other_found x other l l p p xs None (none_of_file x other l p below) refl
-      (sym (none_defined p.levels xs x block (no_close x other))) in
-      sym found ∙ ap (λ ds. record l { defs = ds }) (append-nil l.defs)
+      let found : record l { defs = l.defs ++ defined_by p.levels xs x } ≡ next_lists l p xs x =
+      other_found x other l l p p xs (none_of_file x other l p below) refl in
+      sym found
+      ∙ ap (λ ds. record l { defs = l.defs ++ ds })
+      (none_defined p.levels xs x block (no_close x other))
+      ∙ ap (λ ds. record l { defs = ds }) (append-nil l.defs)
 
 -- a token that is no `;` and no brace
 inner_other : (x : WideToken) → IsInner x → is_brace x ≡ false

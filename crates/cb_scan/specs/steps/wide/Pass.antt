@@ -15,7 +15,7 @@ use Rattle.cb_scan.specs.steps.wide.Contents.{defined_by, most_open, next_levels
 use Rattle.cb_scan.specs.steps.wide.Declarations.{Given, before_in_file, declaration_start}
 use Rattle.cb_scan.specs.steps.wide.Declarations.{ends_part, given, grown}
 use Rattle.cb_scan.specs.steps.wide.Declarations.{may_name, next_in_file, next_part_of}
-use Rattle.cb_scan.specs.steps.wide.Functions.{found, next, next_depth, start}
+use Rattle.cb_scan.specs.steps.wide.Functions.{found, next, next_depth, next_inside, start}
 use Rattle.cb_scan.specs.steps.wide.Lists.{Lists}
 use Rattle.cb_scan.specs.steps.wide.Givens.{object_given, typedef_given}
 use Rattle.cb_scan.specs.steps.wide.Openings.{next_opening, tag_out}
@@ -89,6 +89,15 @@ next_pass p xs x = record {
   levels = next_levels p.opening p.levels xs x;
 }
 
+-- the state after a token deeper in braces, which is of no head and of no declaration of the file
+abbrev pub pass_inside : Pass → List WideToken → WideToken → Pass
+pass_inside p xs x = record p {
+  opening = next_opening p.opening x;
+  machine = next_inside p.machine x;
+  body = if next_depth p.machine x == 0 then None else p.body;
+  levels = next_levels p.opening p.levels xs x;
+}
+
 -- a brace, by its role or by its token
 abbrev pub is_brace : WideToken → Bool
 is_brace x =
@@ -110,6 +119,13 @@ next_lists l p xs x = record {
   defs = ((l.defs ++ flat_map typedef_given (parts_here p x)) ++ tag_out p.opening x)
       ++ defined_by p.levels xs x;
   objects = l.objects ++ flat_map object_given (parts_here p x);
+}
+
+-- what is found with it deeper in braces
+abbrev pub lists_inside : Lists → Pass → List WideToken → WideToken → Lists
+lists_inside l p xs x = record l {
+  ranges = l.ranges ++ option_to_list (range_closed p x);
+  defs = (l.defs ++ tag_out p.opening x) ++ defined_by p.levels xs x;
 }
 
 -- ---- both

@@ -105,7 +105,7 @@ impl Reader {
         ensures bare { length self.new.bare ≤ 5 }
         ensures more { held_len self.new ≤ held_len self.old + 1 }
     {
-        self.raw.push(*item);
+        self.raw.push(item.copied());
         if self.raw.ahead().len() == 3 {
             self.settle();
         }
