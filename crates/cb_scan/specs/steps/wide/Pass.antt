@@ -1,5 +1,5 @@
 -- The pass of the wide profile over the tokens that are of no attribute.
-use Rattle.std.specs.Prelude.{ℕ, Bool, ◌&&◌, ◌||◌, ◌==◌, List, [], ◌∷◌, ◌++◌, max, Option}
+use Rattle.std.specs.Prelude.{ℕ, ◌+◌, ◌-◌, Bool, ◌&&◌, ◌||◌, ◌==◌, List, [], ◌∷◌, ◌++◌, drop, max, Option}
 use Rattle.std.specs.Prelude.{None, if◌then◌else◌}
 use Rattle.std.specs.List.{flat_map}
 use Rattle.std.specs.Option.{is_none, option_map, option_to_list}
@@ -7,6 +7,7 @@ use Rattle.cb_scan.specs.declared.facts.Def.{Def}
 use Rattle.cb_scan.specs.declared.lex.piece.Span.{Span}
 use Rattle.cb_scan.specs.declared.rules.scope.Range.{Range}
 use Rattle.cb_scan.specs.declared.rules.wide.declaration.Declaration.{Declaration}
+use Rattle.cb_scan.specs.declared.rules.wide.level.Level.TheVariants.{Block}
 use Rattle.cb_scan.specs.declared.rules.wide.pass.Pass.{Pass}
 use Rattle.cb_scan.specs.declared.rules.wide.token.WideToken.{WideToken}
 use Rattle.cb_scan.specs.rules.wide.Words.{is_sign}
@@ -96,6 +97,21 @@ pass_inside p xs x = record p {
   machine = next_inside p.machine x;
   body = if next_depth p.machine x == 0 then None else p.body;
   levels = next_levels p.opening p.levels xs x;
+}
+
+-- the state after a `{` that opens a block in a block, and after a `}` of a block in braces
+abbrev pub entered : Pass → Pass
+entered p = record p {
+  opening = None;
+  machine = record p.machine { depth = p.machine.depth + 1 };
+  levels = Block ∷ p.levels;
+}
+
+abbrev pub left : Pass → Pass
+left p = record p {
+  opening = None;
+  machine = record p.machine { depth = p.machine.depth - 1 };
+  levels = drop 1 p.levels;
 }
 
 -- a brace, by its role or by its token

@@ -1,5 +1,5 @@
 //! The levels that are open, the innermost first.
-ghost use Rattle.std.specs.Prelude.{◌≡◌, ◌+◌, ◌<◌, ◌≤◌, ◌^◌, ◌∷◌, [], true, IfOk};
+ghost use Rattle.std.specs.Prelude.{◌≡◌, ◌+◌, ◌<◌, ◌≤◌, ◌^◌, ◌∷◌, [], drop, true, IfOk};
 ghost use Rattle.std.specs.Option.{option_to_list};
 ghost use Rattle.cb_scan.specs.steps.wide.Contents.{
   are_in_block,
@@ -84,6 +84,17 @@ impl Levels {
         Ok(())
     }
 
+    /// Without the innermost level, which mostly is a block inside a block.
+    #[inline(always)]
+    pub(crate) fn leave(&mut self)
+        ensures { self.new ≡ drop 1 self.old }
+    {
+        match self.around.pop() {
+            Some(Level::Block) => self.first = Some(Level::Block),
+            first => self.first = first,
+        }
+    }
+
     /// After a `}`: one in the first column closes all.
     pub(crate) fn close(&mut self, item: &WideToken)
         ensures { self.new ≡ closed_by item.now self.old }
@@ -92,10 +103,7 @@ impl Levels {
             self.first = None;
             self.around.clear();
         } else {
-            match self.around.pop() {
-                Some(Level::Block) => self.first = Some(Level::Block),
-                first => self.first = first,
-            }
+            self.leave();
         }
     }
 

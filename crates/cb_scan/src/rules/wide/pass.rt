@@ -22,10 +22,12 @@ ghost use Rattle.cb_scan.specs.steps.wide.Joint.{
 };
 ghost use Rattle.cb_scan.specs.steps.wide.Openings.{next_opening};
 ghost use Rattle.cb_scan.specs.steps.wide.Pass.{
+  entered,
   function_found,
   is_block,
   is_brace,
   is_in_file,
+  left,
   lists_inside,
   most_in,
   next_body,
@@ -108,6 +110,37 @@ impl Pass {
         ensures { result ≡ is_in_file self.now }
     {
         self.machine.depth == 0
+    }
+
+    /// More than one brace is open.
+    #[inline(always)]
+    pub(crate) fn is_nested(&self) -> bool
+        ensures { result ≡ true → 2 ≤ self.now.machine.depth }
+    {
+        self.machine.depth >= 2
+    }
+
+    /// After a `{` in a block that opens one.
+    #[inline(always)]
+    pub(crate) fn enter(&mut self) -> Result<(), AllocError>
+        requires { self.old.machine.depth + 1 < 2 ^ 32 }
+        ensures { IfOk result (λ _. self.new ≡ entered self.old) }
+    {
+        self.levels.open(Level::Block)?;
+        self.machine.depth += 1;
+        self.opening = None;
+        Ok(())
+    }
+
+    /// After a `}` of a block, which leaves a brace open.
+    #[inline(always)]
+    pub(crate) fn leave(&mut self)
+        requires { 2 ≤ self.old.machine.depth }
+        ensures { self.new ≡ left self.old }
+    {
+        self.levels.leave();
+        self.machine.depth -= 1;
+        self.opening = None;
     }
 
     /// The token is a brace that opens no body.

@@ -7,12 +7,14 @@ ghost use Rattle.cb_scan.specs.steps.wide.Contents.{are_in_block};
 ghost use Rattle.cb_scan.specs.steps.wide.Pass.{most_in, take_all, take_first};
 ghost use Rattle.cb_scan.specs.steps.wide.Reading.{
   all_taken,
+  closes_block,
   emptied,
   first_taken,
   held,
   held_len,
   is_mark_of_blocks,
   most_left_out,
+  opens_block,
   read_next,
   read_on,
   reader_after,
@@ -55,6 +57,22 @@ fn is_mark_of_blocks(token: &Token) -> bool
     ensures { result ≡ is_mark_of_blocks token.now.role }
 {
     matches!(token.role, Role::Mark(b';' | b'{' | b'}'))
+}
+
+/// A `{` that opens a block in a block.
+#[inline(always)]
+fn opens_block(before: Before, sight: &Sight, token: &Token) -> bool
+    ensures { result ≡ opens_block before sight.now token.now }
+{
+    token.is_mark(b'{') && !matches!(before, Before::Linkage) && sight.opening().is_none()
+}
+
+/// A `}` that closes the innermost brace alone.
+#[inline(always)]
+fn closes_block(token: &Token) -> bool
+    ensures { result ≡ closes_block token.now }
+{
+    token.is_mark(b'}') && !token.starts_line
 }
 
 impl Reader {
@@ -328,6 +346,16 @@ impl Reader {
         }
         if in_block && token.is_mark(b';') && !pass.is_in_file() {
             pass.open(None);
+            self.sight = Sight::new();
+            return Ok(());
+        }
+        if in_block && opens_block(before, &self.sight, token) && !pass.is_in_file() {
+            pass.enter()?;
+            self.sight = Sight::new();
+            return Ok(());
+        }
+        if in_block && closes_block(token) && pass.is_nested() {
+            pass.leave();
             self.sight = Sight::new();
             return Ok(());
         }
