@@ -189,6 +189,18 @@ impl Sight {
         }
     }
 
+    /// After a token of a text, by what is directly before it. It stands apart, since what it makes
+    /// of the token would else be cleared in memory for each token that says nothing.
+    fn look_after(&mut self, text: &[u8], before: Before, token: &Token)
+        requires order { token.now.span.start ≤ token.now.span.end }
+        requires end { token.now.span.end ≤ length text.now }
+        requires small { open_in_phase self.old.phase + 1 < 2 ^ 32 }
+        ensures value { self.new ≡ look self.old (token_after text.now before token.now) }
+        ensures small { open_in_phase self.new.phase ≤ open_in_phase self.old.phase + 1 }
+    {
+        self.look(&token_after(text, before, token));
+    }
+
     /// Nothing is to open, and no attribute has begun.
     #[inline(always)]
     fn is_idle(&self) -> bool
@@ -197,7 +209,7 @@ impl Sight {
         self.opening.is_none() && self.before.is_none() && !matches!(self.phase, Phase::Inside(_))
     }
 
-    /// After a token of a text, by what is directly before it. Most say nothing.
+    /// The same. Most tokens say nothing.
     #[inline(always)]
     pub(crate) fn glance(&mut self, text: &[u8], before: Before, token: &Token)
         requires order { token.now.span.start ≤ token.now.span.end }
@@ -212,6 +224,6 @@ impl Sight {
                 return;
             }
         }
-        self.look(&token_after(text, before, token));
+        self.look_after(text, before, token);
     }
 }

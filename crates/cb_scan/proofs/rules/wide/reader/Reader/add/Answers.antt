@@ -1,6 +1,7 @@
 -- A token of the code is read as the token that the pass sees.
 use Rattle.std.proofs.Common.{◌∙◌, sym}
-use Rattle.cb_scan.specs.steps.wide.Reading.{taken_next, the_taken}
+use Rattle.std.proofs.lemmas.Result.{IfOk-weaker}
+use Rattle.cb_scan.specs.steps.wide.Reading.{item_of, taken_next, the_taken}
 use Rattle.cb_scan.proofs.WideEnds.{taken_ended}
 use Rattle.cb_scan.proofs.WideEnters.{closes_parts, nested_below, opens_parts, taken_entered, taken_left}
 use Rattle.cb_scan.proofs.WideGlance.{read_glance, taken_glance}
@@ -8,10 +9,14 @@ use Rattle.cb_scan.proofs.rules.wide.reader.Reader.add.Goals as goal
 
 pub returns-clause-taken : goal.returns-clause-taken
 returns-clause-taken c =
-    c.in_ok-next.ensures.taken
+    let r = c.args.self.now in
+    let item = item_of c.args.text.now r c.args.token.now in
+    IfOk-weaker c.read_after.result _ _
+    (λ _ e. e
     ∙ (λ k. taken_next (c.are_in_block-in_block.ensures k)
-    (record c.args.self.now { before = c.before_after-self.ensures k })
-    (the_taken c.args.pass.now c.args.found.now) (c.token_after-item.ensures k))
+    (record r { before = c.before_after-self.ensures k })
+    (the_taken c.args.pass.now c.args.found.now) item))
+    c.read_after.ensures.taken
 
 -- in a block most tokens are only glanced at
 pub returns-then-not-is_mark_of_blocks-clause-reader
