@@ -60,6 +60,7 @@ pub mod WideCuts
 pub mod WideDeclarations
 pub mod WideDefs
 pub mod WideEnds
+pub mod WideEnters
 pub mod WideEnumerators
 pub mod WideFile
 pub mod WideFive

@@ -79,14 +79,14 @@ in_block_deep (l ∷ ls) is = false_from_ne_true (suc (length ls) == 0)
     (λ e. let none : suc (length ls) ≡ 0 = eqb-true (suc (length ls)) 0 e in absurd (omega arith))
 
 -- such a level goes on as it is
-kept_levels : (ls : List Level) (xs : List WideToken) (x : WideToken) → are_in_block ls ≡ true
+pub kept_levels : (ls : List Level) (xs : List WideToken) (x : WideToken) → are_in_block ls ≡ true
     → first_goes_on ls xs x ≡ ls
 kept_levels [] xs x is = refl
 kept_levels (Block ∷ ls) xs x is = refl
 kept_levels (Members tag d ∷ ls) xs x is = absurd (false≢true is)
 kept_levels (Enumerators tag e ∷ ls) xs x is = absurd (false≢true is)
 
-none_defined : (ls : List Level) (xs : List WideToken) (x : WideToken) → are_in_block ls ≡ true
+pub none_defined : (ls : List Level) (xs : List WideToken) (x : WideToken) → are_in_block ls ≡ true
     → is_sign 125 x.role ≡ false → defined_by ls xs x ≡ []
 none_defined [] xs x is closes = refl
 none_defined (Block ∷ ls) xs x is closes = ap (λ b. if b then [] else []) closes
@@ -120,10 +120,12 @@ module _ (p : Pass) (x : WideToken) (xs : List WideToken) (other : is_brace x �
 
   pub lists_in_block : (l : Lists) → next_lists l p xs x ≡ l
   lists_in_block l =
-      let found : record l { defs = l.defs ++ [] } ≡ next_lists l p xs x =
-      other_found x other l l p p xs None (none_of_file x other l p below) refl
-      (sym (none_defined p.levels xs x block (no_close x other))) in
-      sym found ∙ ap (λ ds. record l { defs = ds }) (append-nil l.defs)
+      let found : record l { defs = l.defs ++ defined_by p.levels xs x } ≡ next_lists l p xs x =
+      other_found x other l l p p xs (none_of_file x other l p below) refl in
+      sym found
+      ∙ ap (λ ds. record l { defs = l.defs ++ ds })
+      (none_defined p.levels xs x block (no_close x other))
+      ∙ ap (λ ds. record l { defs = ds }) (append-nil l.defs)
 
 -- a token that is no `;` and no brace
 inner_other : (x : WideToken) → IsInner x → is_brace x ≡ false

@@ -19,7 +19,7 @@ use Rattle.cb_scan.specs.steps.wide.Sights.{sight_opening, sight_start}
 use Rattle.cb_scan.specs.steps.wide.Tokens.{token_after}
 use Rattle.cb_scan.proofs.WideBlocks.{lists_in_block, pass_in_block}
 
-mark_is : (b : ℕ) (r : Role) → is_mark b r ≡ true → r ≡ Mark b
+pub mark_is : (b : ℕ) (r : Role) → is_mark b r ≡ true → r ≡ Mark b
 mark_is b (Mark m) is = ap Mark (eqb-true m b is)
 mark_is b (Word k) is = absurd (false≢true is)
 mark_is b Str is = absurd (false≢true is)

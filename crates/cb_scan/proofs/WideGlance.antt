@@ -20,7 +20,7 @@ use Rattle.cb_scan.specs.declared.rules.wide.token.WideToken.{WideToken}
 use Rattle.cb_scan.specs.lex.Lexeme.{first_is}
 use Rattle.cb_scan.specs.lex.Tokens.{bytes_of}
 use Rattle.cb_scan.specs.declared.rules.functions.Before.{Before}
-use Rattle.cb_scan.specs.rules.wide.Words.{attribute_words, is_among, is_sign, name_role}
+use Rattle.cb_scan.specs.rules.wide.Words.{attribute_words, is_among, is_literal, is_sign, name_role}
 use Rattle.cb_scan.specs.rules.wide.Words.{reserved_role, role_from, specifier_words}
 use Rattle.cb_scan.specs.rules.wide.Words.{statement_words, word_role}
 use Rattle.cb_scan.specs.declared.rules.wide.reader.Reader.{Reader}
@@ -31,7 +31,8 @@ use Rattle.cb_scan.specs.steps.wide.Pass.{Taken, take_first}
 use Rattle.cb_scan.specs.steps.wide.Reading.{all_taken, is_mark_of_blocks, item_of, passed, read_on}
 use Rattle.cb_scan.specs.steps.wide.Reading.{reader_after, taken_after, taken_on, turned}
 use Rattle.cb_scan.specs.steps.wide.Sights.{is_early, is_idle, look, open_in_phase, paren_after}
-use Rattle.cb_scan.specs.steps.wide.Sights.{phase_past, phase_past_word, seen_after}
+use Rattle.cb_scan.specs.steps.wide.Sights.{phase_past, phase_past_other, phase_past_paren}
+use Rattle.cb_scan.specs.steps.wide.Sights.{phase_past_word, seen_after}
 use Rattle.cb_scan.specs.steps.wide.Tokens.{token_after}
 use Rattle.cb_scan.proofs.WideSigns.{sign_of}
 
@@ -56,13 +57,37 @@ none_is_none q e = true≢false (ap is_none e)
 
 -- ---- one token
 still : (x : WideToken) (q : Phase) → seen_after None x ≡ idle q → is_sign 40 x.role ≡ false
-    → (p : Phase) → is_early p ≡ true → look (idle p) x ≡ idle q
-still x q seen sign Clear e = seen
-still x q seen sign (Word b) e =
+    → is_literal x.role ≡ false → (p : Phase) → is_early p ≡ true → look (idle p) x ≡ idle q
+still x q seen sign literal Clear e = seen
+still x q seen sign literal (Word b) e =
     (λ i. if sign i then record { phase = paren_after b; before = None; opening = None }
     else seen_after None x) ∙ seen
-still x q seen sign Paren e = absurd (false≢true e)
-still x q seen sign (Inside n) e = absurd (false≢true e)
+still x q seen sign literal Paren e =
+    (λ i. if literal i then record { phase = Inside 0; before = None; opening = None }
+    else seen_after None x) ∙ seen
+still x q seen sign literal (Inside n) e = absurd (false≢true e)
+
+-- a string, a number or a character constant, which may be of an attribute
+still_other : (x : WideToken) → seen_after None x ≡ idle Clear → is_sign 40 x.role ≡ false
+    → (p q : Phase) → phase_past_other p ≡ Some q → look (idle p) x ≡ idle q
+still_other x seen sign Clear q e = seen ∙ ap idle (some_is Clear q e)
+still_other x seen sign (Word b) q e =
+    (λ i. if sign i then record { phase = paren_after b; before = None; opening = None }
+    else seen_after None x) ∙ seen ∙ ap idle (some_is Clear q e)
+still_other x seen sign Paren q e = absurd (none_is_none q e)
+still_other x seen sign (Inside n) q e = absurd (none_is_none q e)
+
+-- a `(`
+still_open : (t : Token) (c : Bool) (b : ℕ) → (b == 40) ≡ true
+    → (p q : Phase) → phase_past_paren p ≡ Some q
+    → look (idle p) (in_role t c (wide.Mark b)) ≡ idle q
+still_open t c b is Clear q e = ap idle (some_is Clear q e)
+still_open t c b is (Word a) q e =
+    (λ i. if is i then record { phase = paren_after a; before = None; opening = None }
+    else seen_after None (in_role t c (wide.Mark b)))
+    ∙ ap idle (some_is (paren_after a) q e)
+still_open t c b is Paren q e = ap idle (some_is Clear q e)
+still_open t c b is (Inside n) q e = absurd (none_is_none q e)
 
 module _ (t : Token) (c : Bool) (p : Phase) (early : is_early p ≡ true) where
   -- the phase after a token in this role
@@ -73,8 +98,8 @@ module _ (t : Token) (c : Bool) (p : Phase) (early : is_early p ≡ true) where
   unfolding Gives
   name bytes = elim (bytes_eq (take 2 bytes) (codes "__")) as
       (λ b. Gives (if b then wide.Underscored else wide.Name) (Word false)) [
-        | true ↦ still (in_role t c wide.Underscored) (Word false) refl refl p early
-        | false ↦ still (in_role t c wide.Name) (Word false) refl refl p early
+        | true ↦ still (in_role t c wide.Underscored) (Word false) refl refl refl p early
+        | false ↦ still (in_role t c wide.Name) (Word false) refl refl refl p early
       ]
 
   reserved : (bytes : List ℕ)
@@ -85,16 +110,16 @@ module _ (t : Token) (c : Bool) (p : Phase) (early : is_early p ≡ true) where
       else (if is_among specifier_words bytes then wide.Specifier
       else (if is_among statement_words bytes then wide.Statement else wide.Reserved)))
       (Word b)) [
-        | true ↦ still (in_role t c wide.Attribute) (Word true) refl refl p early
+        | true ↦ still (in_role t c wide.Attribute) (Word true) refl refl refl p early
         | false ↦ elim (is_among specifier_words bytes) as
             (λ b. Gives (if b then wide.Specifier
             else (if is_among statement_words bytes then wide.Statement else wide.Reserved))
             (Word false)) [
-              | true ↦ still (in_role t c wide.Specifier) (Word false) refl refl p early
+              | true ↦ still (in_role t c wide.Specifier) (Word false) refl refl refl p early
               | false ↦ elim (is_among statement_words bytes) as
                   (λ b. Gives (if b then wide.Statement else wide.Reserved) (Word false)) [
-                    | true ↦ still (in_role t c wide.Statement) (Word false) refl refl p early
-                    | false ↦ still (in_role t c wide.Reserved) (Word false) refl refl p early
+                    | true ↦ still (in_role t c wide.Statement) (Word false) refl refl refl p early
+                    | false ↦ still (in_role t c wide.Reserved) (Word false) refl refl refl p early
                   ]
             ]
       ]
@@ -106,13 +131,13 @@ module _ (t : Token) (c : Bool) (p : Phase) (early : is_early p ≡ true) where
   word kind.Define bytes q e = name bytes ∙ ap idle (some_is (Word false) q e)
   word kind.Include bytes q e = name bytes ∙ ap idle (some_is (Word false) q e)
   word kind.Typedef bytes q e =
-      still (in_role t c wide.Typedef) (Word false) refl refl p early
+      still (in_role t c wide.Typedef) (Word false) refl refl refl p early
       ∙ ap idle (some_is (Word false) q e)
   word kind.Extern bytes q e =
-      still (in_role t c wide.Extern) (Word false) refl refl p early
+      still (in_role t c wide.Extern) (Word false) refl refl refl p early
       ∙ ap idle (some_is (Word false) q e)
   word kind.Static bytes q e =
-      still (in_role t c wide.Static) (Word false) refl refl p early
+      still (in_role t c wide.Static) (Word false) refl refl refl p early
       ∙ ap idle (some_is (Word false) q e)
   word kind.Struct bytes q e = absurd (none_is_none q e)
   word kind.Union bytes q e = absurd (none_is_none q e)
@@ -120,25 +145,26 @@ module _ (t : Token) (c : Bool) (p : Phase) (early : is_early p ≡ true) where
   word kind.Reserved bytes q e =
       reserved bytes ∙ ap idle (some_is (Word (is_among attribute_words bytes)) q e)
 
-  past : (r : Role) (bytes : List ℕ) (q : Phase) → phase_past r bytes ≡ Some q
+  past : (r : Role) (bytes : List ℕ) (q : Phase) → phase_past p r bytes ≡ Some q
       → Gives (role_from r bytes) q
   unfolding Gives
   past (role.Word k) bytes q e = word k bytes q e
   past (role.Mark b) bytes q e =
       ⊎_elim
-      (λ is. absurd (none_is_none q (sym (ap (λ o. if o then None else Some Clear) is) ∙ e)))
+      (λ is. still_open t c b is p q
+      (sym (ap (λ o. if o then phase_past_paren p else Some Clear) is) ∙ e))
       (λ isnt.
-      still (in_role t c (wide.Mark b)) Clear refl isnt p early
-      ∙ ap idle (some_is Clear q (sym (ap (λ o. if o then None else Some Clear) isnt) ∙ e)))
+      still (in_role t c (wide.Mark b)) Clear refl isnt refl p early
+      ∙ ap idle (some_is Clear q
+      (sym (ap (λ o. if o then phase_past_paren p else Some Clear) isnt) ∙ e)))
       (cases_Bool (b == 40))
-  past role.Str bytes q e =
-      still (in_role t c wide.Str) Clear refl refl p early ∙ ap idle (some_is Clear q e)
+  past role.Str bytes q e = still_other (in_role t c wide.Str) refl refl p q e
   past role.Other bytes q e =
       elim (first_is (λ b. b == 39) bytes) as
-      (λ b. Gives (if b then wide.Character else wide.Number) Clear) [
-        | true ↦ still (in_role t c wide.Character) Clear refl refl p early
-        | false ↦ still (in_role t c wide.Number) Clear refl refl p early
-      ] ∙ ap idle (some_is Clear q e)
+      (λ b. Gives (if b then wide.Character else wide.Number) q) [
+        | true ↦ still_other (in_role t c wide.Character) refl refl p q e
+        | false ↦ still_other (in_role t c wide.Number) refl refl p q e
+      ]
 
 -- ---- a sight
 glanced : (o a : Option Opening) (p q : Phase) (x : WideToken)
@@ -151,7 +177,7 @@ glanced (Some k) a p q x e is = absurd (false≢true e)
 glanced None (Some k) p q x e is = absurd (false≢true e)
 
 pub glance_is : (text : List ℕ) (b : Before) (s : Sight) (t : Token) (q : Phase)
-    → is_idle s ≡ true → phase_past t.role (bytes_of text t.span) ≡ Some q
+    → is_idle s ≡ true → phase_past s.phase t.role (bytes_of text t.span) ≡ Some q
     → record s { phase = q } ≡ look s (token_after text b t)
 unfolding Gives
 glance_is text b s t q is_ e =
@@ -173,17 +199,30 @@ word_open kind.Enum bytes q e = absurd (none_is_none q e)
 word_open kind.Reserved bytes q e =
     sym (ap open_in_phase (some_is (Word (is_among attribute_words bytes)) q e))
 
-pub none_open : (r : Role) (bytes : List ℕ) (q : Phase) → phase_past r bytes ≡ Some q
-    → open_in_phase q ≡ 0
-none_open (role.Word k) bytes q e = word_open k bytes q e
-none_open (role.Mark b) bytes q e =
+paren_open : (p q : Phase) → phase_past_paren p ≡ Some q → open_in_phase q ≡ 0
+paren_open Clear q e = sym (ap open_in_phase (some_is Clear q e))
+paren_open (Word true) q e = sym (ap open_in_phase (some_is (Inside 0) q e))
+paren_open (Word false) q e = sym (ap open_in_phase (some_is Paren q e))
+paren_open Paren q e = sym (ap open_in_phase (some_is Clear q e))
+paren_open (Inside n) q e = absurd (none_is_none q e)
+
+other_open : (p q : Phase) → phase_past_other p ≡ Some q → open_in_phase q ≡ 0
+other_open Clear q e = sym (ap open_in_phase (some_is Clear q e))
+other_open (Word b) q e = sym (ap open_in_phase (some_is Clear q e))
+other_open Paren q e = absurd (none_is_none q e)
+other_open (Inside n) q e = absurd (none_is_none q e)
+
+pub none_open : (p : Phase) (r : Role) (bytes : List ℕ) (q : Phase)
+    → phase_past p r bytes ≡ Some q → open_in_phase q ≡ 0
+none_open p (role.Word k) bytes q e = word_open k bytes q e
+none_open p (role.Mark b) bytes q e =
     ⊎_elim
-    (λ is. absurd (none_is_none q (sym (ap (λ o. if o then None else Some Clear) is) ∙ e)))
+    (λ is. paren_open p q (sym (ap (λ o. if o then phase_past_paren p else Some Clear) is) ∙ e))
     (λ isnt. sym (ap open_in_phase
-    (some_is Clear q (sym (ap (λ o. if o then None else Some Clear) isnt) ∙ e))))
+    (some_is Clear q (sym (ap (λ o. if o then phase_past_paren p else Some Clear) isnt) ∙ e))))
     (cases_Bool (b == 40))
-none_open role.Str bytes q e = sym (ap open_in_phase (some_is Clear q e))
-none_open role.Other bytes q e = sym (ap open_in_phase (some_is Clear q e))
+none_open p role.Str bytes q e = other_open p q e
+none_open p role.Other bytes q e = other_open p q e
 
 -- ---- a token in a block
 module _ (text : List ℕ) (r : Reader) (t : Taken) (token : Token)

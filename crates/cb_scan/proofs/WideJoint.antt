@@ -1,6 +1,6 @@
 -- A token with which the head of a function and the declaration of the file go on together.
 use Rattle.std.proofs.Common.{◌≡◌, ◌∙◌, Bool, true, false, List, [], ◌∷◌, None, sym, refl}
-use Rattle.std.proofs.lemmas.Bool.{false≢true}
+use Rattle.std.proofs.lemmas.Bool.{false≢true, or_parts}
 use Rattle.std.specs.Prelude.{◌&&◌, ◌||◌, ◌==◌, not, if◌then◌else◌}
 use Rattle.std.specs.Option.{is_none, option_map}
 use Rattle.cb_scan.specs.declared.facts.Def.{Def}
@@ -13,11 +13,12 @@ use Rattle.cb_scan.specs.rules.wide.Words.{is_sign}
 use Rattle.cb_scan.specs.steps.Heads.{add}
 use Rattle.cb_scan.specs.steps.wide.Contents.{closed_by, first_goes_on, next_levels, tag_inside}
 use Rattle.cb_scan.specs.steps.wide.Declarations.{declaration_start, grown}
-use Rattle.cb_scan.specs.steps.wide.Declarations.{is_end, is_over, next_part_of}
+use Rattle.cb_scan.specs.steps.wide.Declarations.{ends_part, is_end, is_over}
+use Rattle.cb_scan.specs.steps.wide.Declarations.{next_in_file, next_part_of}
 use Rattle.cb_scan.specs.steps.wide.Functions.{headed, next, next_depth, stopped, stops}
 use Rattle.cb_scan.specs.steps.wide.Heads.{declared}
 use Rattle.cb_scan.specs.steps.wide.Joint.{head_with, machine_beside, machine_with}
-use Rattle.cb_scan.specs.steps.wide.Joint.{next_together, pass_with, stays_together}
+use Rattle.cb_scan.specs.steps.wide.Joint.{next_together, pass_with, stays_together, together_on}
 use Rattle.cb_scan.specs.steps.wide.Levels.{opened}
 use Rattle.cb_scan.specs.steps.wide.Openings.{next_opening}
 use Rattle.cb_scan.specs.steps.wide.Parts.{function, next_part, part_start}
@@ -157,3 +158,37 @@ module _ (p : Pass) (xs : List WideToken) (x : WideToken) (stays : stays_togethe
   pub parts_joined : part_at p.file x ≡ parts_here (pass_with true p) x
   parts_joined = sym (λ i. if in_file i
       then part_at (if begun i then declaration_start else p.file) x else [])
+
+  -- a token that ends no part
+  module _ (goes : ends_part p.file x ≡ false) where
+    no_semicolon : is_sign 59 x.role ≡ false
+    no_semicolon = (or_parts (is_sign 59 x.role) (p.file.count == 0 && is_sign 44 x.role) goes).0
+
+    no_comma : (p.file.count == 0 && is_sign 44 x.role) ≡ false
+    no_comma = (or_parts (is_sign 59 x.role) (p.file.count == 0 && is_sign 44 x.role) goes).1
+
+    machine_going : record p.machine { head = add p.machine.head x.token }
+        ≡ machine_beside p.file p.machine x
+    machine_going = sym (λ i. if no_semicolon i then stopped p.machine x
+        else record p.machine {
+          head = add p.machine.head x.token;
+          parts = if no_comma i
+              then record p.machine.parts {
+                found = or_first p.machine.parts.found (function p.file.part);
+              }
+              else p.machine.parts;
+        })
+
+    file_going : grown p.file xs x ≡ next_of_file p.file false xs x
+    file_going =
+        let e = grown p.file xs x in
+        sym ((λ i. next_in_file (if goes i then next_part_of p.file x else e) false x)
+        ∙ (λ i. if (end_is x xs no_brace e ∙ no_semicolon) i then declaration_start else e))
+
+    pub going_on
+        : record p {
+          machine = record p.machine { head = add p.machine.head x.token };
+          file = grown p.file xs x;
+        }
+        ≡ together_on p xs x
+    going_on = λ i. record p { machine = machine_going i; file = file_going i }

@@ -1,11 +1,10 @@
 -- A token that is no brace opens and closes nothing.
-use Rattle.std.proofs.Common.{◌≡◌, ◌∙◌, false, List, [], ◌++◌, Option, None, ap, sym, refl, ℕ, ◌+◌, ◌-◌}
+use Rattle.std.proofs.Common.{◌≡◌, ◌∙◌, false, List, [], ◌++◌, None, ap, sym, refl, ℕ, ◌+◌, ◌-◌}
 use Rattle.std.proofs.lemmas.Bool.{and_right, or_parts}
 use Rattle.std.proofs.lemmas.List.{append-nil}
 use Rattle.std.specs.Prelude.{◌&&◌, ◌||◌, ◌==◌, not, if◌then◌else◌}
 use Rattle.std.specs.List.{flat_map}
 use Rattle.std.specs.Option.{is_none, option_map, option_to_list}
-use Rattle.cb_scan.specs.declared.facts.Def.{Def}
 use Rattle.cb_scan.specs.declared.rules.wide.machine.WideMachine.{WideMachine}
 use Rattle.cb_scan.specs.declared.rules.wide.pass.Pass.{Pass}
 use Rattle.cb_scan.specs.declared.rules.wide.token.WideToken.{WideToken}
@@ -89,14 +88,14 @@ module _ (x : WideToken) (other : is_brace x ≡ false) where
       }
 
   -- what is found is of the file or of the innermost level
-  pub other_found : (l f : Lists) (p q : Pass) (xs : List WideToken) (d : Option Def)
+  pub other_found : (l f : Lists) (p q : Pass) (xs : List WideToken)
       → f ≡ record l {
         defs = l.defs ++ flat_map typedef_given (parts_here p x);
         objects = l.objects ++ flat_map object_given (parts_here p x);
       }
-      → q.levels ≡ p.levels → option_to_list d ≡ defined_by q.levels xs x
-      → record f { defs = f.defs ++ option_to_list d } ≡ next_lists l p xs x
-  other_found l f p q xs d file levels defined =
+      → q.levels ≡ p.levels
+      → record f { defs = f.defs ++ defined_by q.levels xs x } ≡ next_lists l p xs x
+  other_found l f p q xs file levels =
       let none_closed : range_closed p x ≡ None =
       (λ i. if no_close i && next_depth p.machine x == 0
       then option_map (range_to x.token.span.end) p.body else None) in
@@ -109,8 +108,8 @@ module _ (x : WideToken) (other : is_brace x ≡ false) where
       let given = l.defs ++ flat_map typedef_given (parts_here p x) in
       let no_tag_after : given ++ tag_out p.opening x ≡ given =
       ap (λ ts. given ++ ts) no_tag ∙ append-nil given in
-      let in_level : option_to_list d ≡ defined_by p.levels xs x =
-      defined ∙ ap (λ ls. defined_by ls xs x) levels in
+      let in_level : defined_by q.levels xs x ≡ defined_by p.levels xs x =
+      ap (λ ls. defined_by ls xs x) levels in
       (λ i. record (file i) { defs = (file i).defs ++ in_level i })
       ∙ (λ i. record {
         functions = sym functions_same i;

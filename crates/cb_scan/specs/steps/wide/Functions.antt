@@ -77,6 +77,10 @@ grown m xs x =
 abbrev pub next : WideMachine → List WideToken → WideToken → WideMachine
 next m xs x = if stops m x then stopped m x else grown m xs x
 
+-- after a token deeper in braces, which is of no head
+abbrev pub next_inside : WideMachine → WideToken → WideMachine
+next_inside m x = if stops m x then stopped m x else record m { depth = next_depth m x }
+
 -- ---- all tokens, where these are the bodies
 
 -- the functions of the tokens from a state on

@@ -43,6 +43,12 @@ machine_beside d m x =
     if is_sign semicolon x.role then stopped m x
     else record m { head = add m.head x.token; parts = head_beside d m.parts x }
 
+abbrev pub together_on : Pass → List WideToken → WideToken → Pass
+together_on p xs x = record p {
+  machine = machine_beside p.file p.machine x;
+  file = next_of_file p.file false xs x;
+}
+
 abbrev pub next_together : Pass → List WideToken → WideToken → Pass
 next_together p xs x = record {
   opening = next_opening p.opening x;

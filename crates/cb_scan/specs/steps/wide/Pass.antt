@@ -1,5 +1,5 @@
 -- The pass of the wide profile over the tokens that are of no attribute.
-use Rattle.std.specs.Prelude.{ℕ, Bool, ◌&&◌, ◌||◌, ◌==◌, List, [], ◌∷◌, ◌++◌, max, Option}
+use Rattle.std.specs.Prelude.{ℕ, ◌+◌, ◌-◌, Bool, ◌&&◌, ◌||◌, ◌==◌, List, [], ◌∷◌, ◌++◌, drop, max, Option}
 use Rattle.std.specs.Prelude.{None, if◌then◌else◌}
 use Rattle.std.specs.List.{flat_map}
 use Rattle.std.specs.Option.{is_none, option_map, option_to_list}
@@ -7,6 +7,7 @@ use Rattle.cb_scan.specs.declared.facts.Def.{Def}
 use Rattle.cb_scan.specs.declared.lex.piece.Span.{Span}
 use Rattle.cb_scan.specs.declared.rules.scope.Range.{Range}
 use Rattle.cb_scan.specs.declared.rules.wide.declaration.Declaration.{Declaration}
+use Rattle.cb_scan.specs.declared.rules.wide.level.Level.TheVariants.{Block}
 use Rattle.cb_scan.specs.declared.rules.wide.pass.Pass.{Pass}
 use Rattle.cb_scan.specs.declared.rules.wide.token.WideToken.{WideToken}
 use Rattle.cb_scan.specs.rules.wide.Words.{is_sign}
@@ -15,7 +16,7 @@ use Rattle.cb_scan.specs.steps.wide.Contents.{defined_by, most_open, next_levels
 use Rattle.cb_scan.specs.steps.wide.Declarations.{Given, before_in_file, declaration_start}
 use Rattle.cb_scan.specs.steps.wide.Declarations.{ends_part, given, grown}
 use Rattle.cb_scan.specs.steps.wide.Declarations.{may_name, next_in_file, next_part_of}
-use Rattle.cb_scan.specs.steps.wide.Functions.{found, next, next_depth, start}
+use Rattle.cb_scan.specs.steps.wide.Functions.{found, next, next_depth, next_inside, start}
 use Rattle.cb_scan.specs.steps.wide.Lists.{Lists}
 use Rattle.cb_scan.specs.steps.wide.Givens.{object_given, typedef_given}
 use Rattle.cb_scan.specs.steps.wide.Openings.{next_opening, tag_out}
@@ -89,6 +90,30 @@ next_pass p xs x = record {
   levels = next_levels p.opening p.levels xs x;
 }
 
+-- the state after a token deeper in braces, which is of no head and of no declaration of the file
+abbrev pub pass_inside : Pass → List WideToken → WideToken → Pass
+pass_inside p xs x = record p {
+  opening = next_opening p.opening x;
+  machine = next_inside p.machine x;
+  body = if next_depth p.machine x == 0 then None else p.body;
+  levels = next_levels p.opening p.levels xs x;
+}
+
+-- the state after a `{` that opens a block in a block, and after a `}` of a block in braces
+abbrev pub entered : Pass → Pass
+entered p = record p {
+  opening = None;
+  machine = record p.machine { depth = p.machine.depth + 1 };
+  levels = Block ∷ p.levels;
+}
+
+abbrev pub left : Pass → Pass
+left p = record p {
+  opening = None;
+  machine = record p.machine { depth = p.machine.depth - 1 };
+  levels = drop 1 p.levels;
+}
+
 -- a brace, by its role or by its token
 abbrev pub is_brace : WideToken → Bool
 is_brace x =
@@ -110,6 +135,13 @@ next_lists l p xs x = record {
   defs = ((l.defs ++ flat_map typedef_given (parts_here p x)) ++ tag_out p.opening x)
       ++ defined_by p.levels xs x;
   objects = l.objects ++ flat_map object_given (parts_here p x);
+}
+
+-- what is found with it deeper in braces
+abbrev pub lists_inside : Lists → Pass → List WideToken → WideToken → Lists
+lists_inside l p xs x = record l {
+  ranges = l.ranges ++ option_to_list (range_closed p x);
+  defs = (l.defs ++ tag_out p.opening x) ++ defined_by p.levels xs x;
 }
 
 -- ---- both

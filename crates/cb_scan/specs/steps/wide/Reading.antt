@@ -1,19 +1,22 @@
 -- The pass of the wide profile over all tokens of the code: those that may be of an attribute, or
 -- ahead of which more is to be seen, are held back.
-use Rattle.std.specs.Prelude.{ℕ, ◌+◌, Bool, ◌||◌, ◌==◌, List, [], ◌∷◌, ◌++◌, drop, take, length, max, Option}
+use Rattle.std.specs.Prelude.{ℕ, ◌+◌, Bool, ◌&&◌, ◌||◌, not, ◌==◌, List, [], ◌∷◌, ◌++◌, drop, take, length, max, Option}
 use Rattle.std.specs.Prelude.{if◌then◌else◌}
+use Rattle.std.specs.Option.{is_none}
 use Rattle.cb_scan.specs.declared.lex.token.Role.{Role}
 use Rattle.cb_scan.specs.declared.lex.token.Token.{Token}
 use Rattle.cb_scan.specs.Bytes.{close_brace, open_brace, semicolon}
 use Rattle.cb_scan.specs.lex.Tokens.{is_mark}
+use Rattle.cb_scan.specs.declared.rules.functions.Before.{Before}
 use Rattle.cb_scan.specs.declared.rules.functions.Before.TheVariants.{Anything}
 use Rattle.cb_scan.specs.declared.rules.wide.attribute.Attribute.TheVariants.{Outside}
 use Rattle.cb_scan.specs.declared.rules.wide.opening.Opening.{Opening}
 use Rattle.cb_scan.specs.declared.rules.wide.pass.Pass.{Pass}
 use Rattle.cb_scan.specs.declared.rules.wide.reader.Reader.{Reader}
+use Rattle.cb_scan.specs.declared.rules.wide.sight.Sight.{Sight}
 use Rattle.cb_scan.specs.declared.rules.wide.token.WideToken.{WideToken}
 use Rattle.cb_scan.specs.rules.wide.Attributes.{ends_attribute}
-use Rattle.cb_scan.specs.steps.Functions.{before_after}
+use Rattle.cb_scan.specs.steps.Functions.{before_after, is_after_linkage}
 use Rattle.cb_scan.specs.steps.wide.Attributes.{kept_from, leaves_out, next_attribute, open_count}
 use Rattle.cb_scan.specs.steps.wide.Contents.{are_in_block}
 use Rattle.cb_scan.specs.steps.wide.Lists.{Lists}
@@ -123,6 +126,15 @@ passed r token = record r { before = before_after r.before token }
 abbrev pub is_mark_of_blocks : Role → Bool
 is_mark_of_blocks role =
     is_mark semicolon role || is_mark open_brace role || is_mark close_brace role
+
+-- a `{` that opens a block in a block
+abbrev pub opens_block : Before → Sight → Token → Bool
+opens_block b s token =
+    is_mark open_brace token.role && (not (is_after_linkage b) && is_none (sight_opening s))
+
+-- a `}` that closes the innermost brace alone
+abbrev pub closes_block : Token → Bool
+closes_block token = is_mark close_brace token.role && not token.starts_line
 
 -- after a token of the code
 abbrev pub reader_after : List ℕ → Reader → Taken → Token → Reader

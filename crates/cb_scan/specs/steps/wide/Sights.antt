@@ -68,9 +68,8 @@ look s x = look_in s.phase s x
 
 -- nothing is to open, and no attribute has begun
 abbrev pub is_early : Phase → Bool
-is_early Clear = true
-is_early (Word attribute) = true
-is_early _ = false
+is_early (Inside n) = false
+is_early _ = true
 
 abbrev pub is_idle : Sight → Bool
 is_idle s = is_none s.opening && (is_none s.before && is_early s.phase)
@@ -83,12 +82,24 @@ phase_past_word kind.Enum bytes = None
 phase_past_word kind.Reserved bytes = Some (Word (is_among attribute_words bytes))
 phase_past_word _ bytes = Some (Word false)
 
--- the phase after a token with these bytes, if nothing is to open after it either
-abbrev pub phase_past : Role → List ℕ → Option Phase
-phase_past (role.Word kind) bytes = phase_past_word kind bytes
-phase_past (role.Mark b) bytes = if b == open_paren then None else Some Clear
-phase_past role.Str bytes = Some Clear
-phase_past role.Other bytes = Some Clear
+-- the phase after a `(`, where no attribute has begun
+abbrev pub phase_past_paren : Phase → Option Phase
+phase_past_paren (Word attribute) = Some (paren_after attribute)
+phase_past_paren (Inside n) = None
+phase_past_paren _ = Some Clear
+
+-- the phase after a string, a number or a character constant, where it is of no attribute
+abbrev pub phase_past_other : Phase → Option Phase
+phase_past_other Clear = Some Clear
+phase_past_other (Word attribute) = Some Clear
+phase_past_other _ = None
+
+-- the phase after a token with these bytes, if that is all that it changes where nothing is to open
+abbrev pub phase_past : Phase → Role → List ℕ → Option Phase
+phase_past p (role.Word kind) bytes = phase_past_word kind bytes
+phase_past p (role.Mark b) bytes = if b == open_paren then phase_past_paren p else Some Clear
+phase_past p role.Str bytes = phase_past_other p
+phase_past p role.Other bytes = phase_past_other p
 
 -- after some tokens
 unfoldable pub look_along : Sight → List WideToken → Sight

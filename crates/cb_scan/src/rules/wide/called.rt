@@ -64,18 +64,16 @@ impl Enclosed {
     }
 
     /// After one more word or star.
-    fn next(&self, item: &WideToken) -> Enclosed
-        ensures { result ≡ next_enclosed self.now item.now }
+    fn next(&mut self, item: &WideToken)
+        ensures { self.new ≡ next_enclosed self.old item.now }
     {
-        Enclosed {
-            amount: amount_after(self.amount),
-            last: if item.role.is_name() {
-                Some(*item)
-            } else {
-                None
-            },
-            starred: self.starred || item.role.is_sign(b'*'),
+        self.amount = amount_after(self.amount);
+        if item.role.is_name() {
+            self.last = Some(*item);
+        } else {
+            self.last = None;
         }
+        self.starred = self.starred || item.role.is_sign(b'*');
     }
 
     /// The name that is called where another token comes: `)` and then `(`.
@@ -122,12 +120,12 @@ impl Calls {
         }
         if is_outer && item.role.is_sign(b'(') {
             self.enclosed = Some(Enclosed::new());
-        } else if let Some(enclosed) = self.enclosed {
+        } else if let Some(enclosed) = &mut self.enclosed {
             if item.role.is_word() || item.role.is_sign(b'*') {
-                self.enclosed = Some(enclosed.next(item));
+                enclosed.next(item);
             } else {
-                self.enclosed = None;
                 self.found = enclosed.call(ahead, item);
+                self.enclosed = None;
             }
         }
     }

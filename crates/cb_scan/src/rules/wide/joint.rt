@@ -1,11 +1,13 @@
 //! The pass of the wide profile, where the head of a function and the declaration of the file
 //! mostly go together: then what is known of their open part is kept once.
-ghost use Rattle.std.specs.Prelude.{◌≡◌, ◌+◌, ◌<◌, ◌≤◌, ◌^◌, IfOk};
+ghost use Rattle.std.specs.Prelude.{◌≡◌, ◌+◌, ◌<◌, ◌≤◌, ◌^◌, true, IfOk};
 ghost use Rattle.std.specs.Option.{option_map};
 ghost use Rattle.cb_scan.specs.steps.Functions.{range_to};
 ghost use Rattle.cb_scan.specs.steps.wide.Contents.{are_in_block};
 ghost use Rattle.cb_scan.specs.steps.wide.Pass.{
+  entered,
   is_in_file,
+  left,
   most_in,
   next_lists,
   next_pass,
@@ -62,6 +64,32 @@ impl Joint {
         ensures { result ≡ is_in_file self.now }
     {
         self.pass.is_in_file()
+    }
+
+    /// More than one brace is open.
+    #[inline(always)]
+    pub(crate) fn is_nested(&self) -> bool
+        ensures { result ≡ true → 2 ≤ self.now.machine.depth }
+    {
+        self.pass.is_nested()
+    }
+
+    /// After a `{` in a block that opens one.
+    #[inline(always)]
+    pub(crate) fn enter(&mut self) -> Result<(), AllocError>
+        requires { self.old.machine.depth + 1 < 2 ^ 32 }
+        ensures { IfOk result (λ _. self.new ≡ entered self.old) }
+    {
+        self.pass.enter()
+    }
+
+    /// After a `}` of a block, which leaves a brace open.
+    #[inline(always)]
+    pub(crate) fn leave(&mut self)
+        requires { 2 ≤ self.old.machine.depth }
+        ensures { self.new ≡ left self.old }
+    {
+        self.pass.leave();
     }
 
     /// The name of the function whose body the next token is in.

@@ -1,5 +1,5 @@
 //! The levels that are open, the innermost first.
-ghost use Rattle.std.specs.Prelude.{◌≡◌, ◌+◌, ◌<◌, ◌≤◌, ◌^◌, ◌∷◌, [], IfOk};
+ghost use Rattle.std.specs.Prelude.{◌≡◌, ◌+◌, ◌<◌, ◌≤◌, ◌^◌, ◌∷◌, [], drop, true, IfOk};
 ghost use Rattle.std.specs.Option.{option_to_list};
 ghost use Rattle.cb_scan.specs.steps.wide.Contents.{
   are_in_block,
@@ -45,6 +45,14 @@ impl Levels {
         }
     }
 
+    /// No level is open.
+    #[inline(always)]
+    pub(crate) fn are_none(&self) -> bool
+        ensures { result ≡ true → self.now ≡ [] }
+    {
+        self.first.is_none()
+    }
+
     /// The innermost level is a block.
     #[inline(always)]
     pub(crate) fn are_in_block(&self) -> bool
@@ -67,11 +75,24 @@ impl Levels {
     pub(crate) fn open(&mut self, level: Level) -> Result<(), AllocError>
         ensures { IfOk result (λ _. self.new ≡ level ∷ self.old) }
     {
-        if let Some(around) = self.first {
-            self.around.push(around)?;
+        match self.first {
+            Some(Level::Block) => self.around.push(Level::Block)?,
+            Some(around) => self.around.push(around)?,
+            None => {}
         }
         self.first = Some(level);
         Ok(())
+    }
+
+    /// Without the innermost level, which mostly is a block inside a block.
+    #[inline(always)]
+    pub(crate) fn leave(&mut self)
+        ensures { self.new ≡ drop 1 self.old }
+    {
+        match self.around.pop() {
+            Some(Level::Block) => self.first = Some(Level::Block),
+            first => self.first = first,
+        }
     }
 
     /// After a `}`: one in the first column closes all.
@@ -82,7 +103,7 @@ impl Levels {
             self.first = None;
             self.around.clear();
         } else {
-            self.first = self.around.pop();
+            self.leave();
         }
     }
 

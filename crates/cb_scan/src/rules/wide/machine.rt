@@ -1,5 +1,6 @@
 //! The functions of the wide profile, a token at a time. Attributes are left out.
 ghost use Rattle.std.specs.Prelude.{◌≡◌, ◌+◌, ◌<◌, ◌≤◌, ◌^◌};
+ghost use Rattle.cb_scan.specs.steps.Heads.{add};
 ghost use Rattle.cb_scan.specs.steps.wide.Functions.{
   defined,
   found,
@@ -8,6 +9,7 @@ ghost use Rattle.cb_scan.specs.steps.wide.Functions.{
   head_name,
   next,
   next_depth,
+  next_inside,
   next_old,
   start,
   stopped,
@@ -155,6 +157,14 @@ impl WideMachine {
         self.depth = depth;
     }
 
+    /// After a token that is no stop, where a declaration has the same open part, which goes on.
+    #[inline(always)]
+    pub(crate) fn go_on(&mut self, item: &WideToken)
+        ensures { self.new ≡ record self.old { head = add self.old.head item.now.token } }
+    {
+        self.head.add(&item.token);
+    }
+
     /// After a token of the file that is no brace, where a declaration has the same open part.
     #[inline(always)]
     pub(crate) fn next_beside(&mut self, declaration: &Declaration, item: &WideToken)
@@ -166,6 +176,22 @@ impl WideMachine {
         } else {
             self.head.add(&item.token);
             self.parts.add_beside(declaration, item);
+        }
+    }
+
+    /// After a token deeper in braces, which is of no head.
+    #[inline(always)]
+    pub(crate) fn next_inside(&mut self, item: &WideToken)
+        requires { self.old.depth + 1 < 2 ^ 32 }
+        ensures value { self.new ≡ next_inside self.old item.now }
+        ensures depth { self.new.depth ≤ self.old.depth + 1 }
+        ensures count { self.new.parts.count ≤ self.old.parts.count + 1 }
+    {
+        let after = self.next_depth(item);
+        if self.stops(item, after) {
+            self.stop(item);
+        } else {
+            self.depth = after;
         }
     }
 

@@ -1,24 +1,43 @@
 //! The pass of the wide profile over the tokens that are of no attribute.
-ghost use Rattle.std.specs.Prelude.{◌≡◌, ◌+◌, ◌<◌, ◌≤◌, ◌^◌, ◌++◌, false, true, IfOk};
+ghost use Rattle.std.specs.Prelude.{◌≡◌, ◌+◌, ◌<◌, ◌≤◌, ◌^◌, ◌++◌, ◌∷◌, ◌==◌, None, false, true, IfOk};
+ghost use Rattle.std.specs.Prelude.{if◌then◌else◌};
 ghost use Rattle.std.specs.List.{flat_map};
 ghost use Rattle.std.specs.Option.{option_map};
 ghost use Rattle.cb_scan.specs.steps.Functions.{range_to};
-ghost use Rattle.cb_scan.specs.steps.wide.Contents.{most_open, next_levels};
+ghost use Rattle.cb_scan.specs.steps.wide.Contents.{
+  defined_by,
+  first_goes_on,
+  most_open,
+  next_levels,
+  tag_inside,
+};
+ghost use Rattle.cb_scan.specs.steps.wide.Functions.{next_depth};
+ghost use Rattle.cb_scan.specs.steps.wide.Levels.{opened};
 ghost use Rattle.cb_scan.specs.steps.wide.Givens.{object_given, typedef_given};
-ghost use Rattle.cb_scan.specs.steps.wide.Joint.{next_together, pass_with, stays_together};
+ghost use Rattle.cb_scan.specs.steps.wide.Joint.{
+  next_together,
+  pass_with,
+  stays_together,
+  together_on,
+};
 ghost use Rattle.cb_scan.specs.steps.wide.Openings.{next_opening};
 ghost use Rattle.cb_scan.specs.steps.wide.Pass.{
+  entered,
   function_found,
   is_block,
   is_brace,
   is_in_file,
+  left,
+  lists_inside,
   most_in,
   next_body,
   next_file,
   next_lists,
   next_of_file,
   next_pass,
+  part_at,
   parts_here,
+  pass_inside,
   pass_start,
   range_closed,
 };
@@ -28,7 +47,7 @@ use crate::lex::piece::Span;
 use crate::rules::scope::Range;
 use crate::rules::wide::declaration::Declaration;
 use crate::rules::wide::found::Found;
-use crate::rules::wide::level::opened;
+use crate::rules::wide::level::{Level, opened};
 use crate::rules::wide::levels::Levels;
 use crate::rules::wide::machine::WideMachine;
 use crate::rules::wide::opening::{Opening, next_opening, opening_tag};
@@ -93,6 +112,37 @@ impl Pass {
         self.machine.depth == 0
     }
 
+    /// More than one brace is open.
+    #[inline(always)]
+    pub(crate) fn is_nested(&self) -> bool
+        ensures { result ≡ true → 2 ≤ self.now.machine.depth }
+    {
+        self.machine.depth >= 2
+    }
+
+    /// After a `{` in a block that opens one.
+    #[inline(always)]
+    pub(crate) fn enter(&mut self) -> Result<(), AllocError>
+        requires { self.old.machine.depth + 1 < 2 ^ 32 }
+        ensures { IfOk result (λ _. self.new ≡ entered self.old) }
+    {
+        self.levels.open(Level::Block)?;
+        self.machine.depth += 1;
+        self.opening = None;
+        Ok(())
+    }
+
+    /// After a `}` of a block, which leaves a brace open.
+    #[inline(always)]
+    pub(crate) fn leave(&mut self)
+        requires { 2 ≤ self.old.machine.depth }
+        ensures { self.new ≡ left self.old }
+    {
+        self.levels.leave();
+        self.machine.depth -= 1;
+        self.opening = None;
+    }
+
     /// The token is a brace that opens no body.
     #[inline(always)]
     fn is_block(&self, item: &WideToken) -> bool
@@ -119,11 +169,7 @@ impl Pass {
                 None => None,
             };
         }
-        if self.machine.next_depth(item) == 0 {
-            None
-        } else {
-            self.body
-        }
+        self.body_inside(item)
     }
 
     /// The range of the function whose body the token ends, if it ends one.
@@ -190,6 +236,26 @@ impl Pass {
         }
     }
 
+    /// The levels after the first of these tokens, which is a `{` that counts. Most open a block.
+    #[inline(always)]
+    fn open_level(&mut self, ahead: &[WideToken], item: &WideToken) -> Result<(), AllocError>
+        requires { most_open self.old.levels + 1 < 2 ^ 32 }
+        ensures levels { IfOk result (λ _. self.new ≡ record self.old {
+          levels = opened self.old.opening (tag_inside self.old.levels)
+              ∷ first_goes_on self.old.levels ahead.now item.now;
+        }) }
+        ensures small { IfOk result
+            (λ _. most_open self.new.levels ≤ most_open self.old.levels + 1) }
+    {
+        if self.opening.is_none() {
+            self.levels.add(ahead, item);
+            return self.levels.open(Level::Block);
+        }
+        let level = opened(self.opening, self.levels.tag_inside());
+        self.levels.add(ahead, item);
+        self.levels.open(level)
+    }
+
     /// The levels after the first of these tokens.
     fn go_on(&mut self, ahead: &[WideToken], item: &WideToken) -> Result<(), AllocError>
         requires { most_open self.old.levels + 1 < 2 ^ 32 }
@@ -200,14 +266,53 @@ impl Pass {
             (λ _. most_open self.new.levels ≤ most_open self.old.levels + 1) }
     {
         if item.counted {
-            let level = opened(self.opening, self.levels.tag_inside());
-            self.levels.add(ahead, item);
-            self.levels.open(level)?;
+            self.open_level(ahead, item)?;
         } else if item.role.is_sign(b'}') {
             self.levels.close(item);
         } else {
             self.levels.add(ahead, item);
         }
+        Ok(())
+    }
+
+    /// The name of the function whose body the next token is in, deeper in braces.
+    #[inline(always)]
+    fn body_inside(&self, item: &WideToken) -> Option<Span>
+        requires { self.now.machine.depth + 1 < 2 ^ 32 }
+        ensures { result
+            ≡ if next_depth self.now.machine item.now == 0 then None else self.now.body }
+    {
+        if self.machine.next_depth(item) == 0 {
+            None
+        } else {
+            self.body
+        }
+    }
+
+    /// Takes the first of these tokens, which is a brace, deeper in braces.
+    fn take_inside(
+        &mut self,
+        found: &mut Found,
+        ahead: &[WideToken],
+        item: &WideToken,
+    ) -> Result<(), AllocError>
+        requires { most_in self.old + 1 < 2 ^ 32 }
+        ensures pass { IfOk result (λ _. self.new ≡ pass_inside self.old ahead.now item.now) }
+        ensures small { IfOk result (λ _. most_in self.new ≤ most_in self.old + 1) }
+        ensures found { IfOk result
+            (λ _. found.new ≡ lists_inside found.old self.old ahead.now item.now) }
+    {
+        let body = self.body_inside(item);
+        let range = self.range_closed(item);
+        if item.counted {
+            found.define(opening_tag(&self.opening))?;
+        }
+        found.define(self.levels.found(ahead, item))?;
+        found.end_function(range)?;
+        self.go_on(ahead, item)?;
+        self.machine.next_inside(item);
+        self.body = body;
+        self.opening = next_opening(self.opening, item);
         Ok(())
     }
 
@@ -224,6 +329,9 @@ impl Pass {
         ensures found { IfOk result
             (λ _. found.new ≡ next_lists found.old self.old ahead.now item.now) }
     {
+        if !self.is_in_file() {
+            return self.take_inside(found, ahead, item);
+        }
         let body = self.next_body(item);
         let function = self.function_found(item);
         let range = self.range_closed(item);
@@ -239,6 +347,51 @@ impl Pass {
         self.body = body;
         self.opening = next_opening(self.opening, item);
         Ok(())
+    }
+
+    /// The innermost level goes on with the first of these tokens, which is of it, and gives what
+    /// it defines there.
+    fn add_inside(
+        &mut self,
+        found: &mut Found,
+        ahead: &[WideToken],
+        item: &WideToken,
+    ) -> Result<(), AllocError>
+        requires { most_open self.old.levels + 1 < 2 ^ 32 }
+        ensures pass { IfOk result (λ _. self.new
+            ≡ record self.old { levels = first_goes_on self.old.levels ahead.now item.now }) }
+        ensures small { IfOk result
+            (λ _. most_open self.new.levels ≤ most_open self.old.levels + 1) }
+        ensures found { IfOk result (λ _. found.new ≡ record found.old {
+          defs = found.old.defs ++ defined_by self.old.levels ahead.now item.now;
+        }) }
+    {
+        found.define(self.levels.found(ahead, item))?;
+        self.levels.add(ahead, item);
+        Ok(())
+    }
+
+    /// The same in the file, where mostly there is no level.
+    #[inline(always)]
+    fn add_in_file(
+        &mut self,
+        found: &mut Found,
+        ahead: &[WideToken],
+        item: &WideToken,
+    ) -> Result<(), AllocError>
+        requires { most_open self.old.levels + 1 < 2 ^ 32 }
+        ensures pass { IfOk result (λ _. self.new
+            ≡ record self.old { levels = first_goes_on self.old.levels ahead.now item.now }) }
+        ensures small { IfOk result
+            (λ _. most_open self.new.levels ≤ most_open self.old.levels + 1) }
+        ensures found { IfOk result (λ _. found.new ≡ record found.old {
+          defs = found.old.defs ++ defined_by self.old.levels ahead.now item.now;
+        }) }
+    {
+        if self.levels.are_none() {
+            return Ok(());
+        }
+        self.add_inside(found, ahead, item)
     }
 
     /// Takes the first of these tokens, which is no brace: it opens and closes nothing.
@@ -261,8 +414,7 @@ impl Pass {
             self.machine.next(ahead, item);
             self.body = None;
         }
-        found.define(self.levels.found(ahead, item))?;
-        self.levels.add(ahead, item);
+        self.add_inside(found, ahead, item)?;
         self.see(item);
         Ok(())
     }
@@ -290,6 +442,40 @@ impl Pass {
         self.is_in_file() && self.file.is_new() && self.machine.parts.is_new()
     }
 
+    /// The head and the declaration of the file go on together, and give what the part names that
+    /// ends here. Most tokens end none.
+    #[inline(always)]
+    fn go_on_together(
+        &mut self,
+        found: &mut Found,
+        ahead: &[WideToken],
+        item: &WideToken,
+    ) -> Result<(), AllocError>
+        requires deep { self.old.machine.depth + 1 < 2 ^ 32 }
+        requires open { self.old.file.count + 1 < 2 ^ 32 }
+        requires stays { stays_together self.old item.now ≡ true }
+        ensures pass { IfOk result
+            (λ _. self.new ≡ together_on self.old ahead.now item.now) }
+        ensures deep { IfOk result (λ _. self.new.machine.depth ≤ self.old.machine.depth + 1) }
+        ensures open { IfOk result (λ _. self.new.file.count ≤ self.old.file.count + 1) }
+        ensures found { IfOk result (λ _. found.new ≡ record found.old {
+          defs = found.old.defs
+              ++ flat_map typedef_given (part_at self.old.file item.now);
+          objects = found.old.objects
+              ++ flat_map object_given (part_at self.old.file item.now);
+        }) }
+    {
+        if self.file.ends_part(item) {
+            found.end_part(&self.file, item)?;
+            self.machine.next_beside(&self.file, item);
+            self.file.next_of_file(false, ahead, item);
+        } else {
+            self.machine.go_on(item);
+            self.file.add(ahead, item);
+        }
+        Ok(())
+    }
+
     /// Takes the first of these tokens, a token of the file that is no brace and begins no
     /// declaration anew, where the head has the open part of the declaration.
     #[inline(always)]
@@ -307,12 +493,9 @@ impl Pass {
         ensures found { IfOk result (λ _. found.new
             ≡ next_lists found.old (pass_with true self.old) ahead.now item.now) }
     {
-        found.end_part(&self.file, item)?;
-        self.machine.next_beside(&self.file, item);
-        self.file.next_of_file(false, ahead, item);
+        self.go_on_together(found, ahead, item)?;
         self.body = None;
-        found.define(self.levels.found(ahead, item))?;
-        self.levels.add(ahead, item);
+        self.add_in_file(found, ahead, item)?;
         self.see(item);
         Ok(())
     }

@@ -7,12 +7,14 @@ ghost use Rattle.cb_scan.specs.steps.wide.Contents.{are_in_block};
 ghost use Rattle.cb_scan.specs.steps.wide.Pass.{most_in, take_all, take_first};
 ghost use Rattle.cb_scan.specs.steps.wide.Reading.{
   all_taken,
+  closes_block,
   emptied,
   first_taken,
   held,
   held_len,
   is_mark_of_blocks,
   most_left_out,
+  opens_block,
   read_next,
   read_on,
   reader_after,
@@ -27,6 +29,7 @@ ghost use Rattle.cb_scan.specs.steps.wide.Reading.{
   the_taken,
   turned,
 };
+ghost use Rattle.cb_scan.specs.steps.wide.Tokens.{token_after};
 
 use crate::lex::token::{Role, Token};
 use crate::rules::functions::{Before, before_after};
@@ -55,6 +58,22 @@ fn is_mark_of_blocks(token: &Token) -> bool
     ensures { result ≡ is_mark_of_blocks token.now.role }
 {
     matches!(token.role, Role::Mark(b';' | b'{' | b'}'))
+}
+
+/// A `{` that opens a block in a block.
+#[inline(always)]
+fn opens_block(before: Before, sight: &Sight, token: &Token) -> bool
+    ensures { result ≡ opens_block before sight.now token.now }
+{
+    token.is_mark(b'{') && !matches!(before, Before::Linkage) && sight.opening().is_none()
+}
+
+/// A `}` that closes the innermost brace alone.
+#[inline(always)]
+fn closes_block(token: &Token) -> bool
+    ensures { result ≡ closes_block token.now }
+{
+    token.is_mark(b'}') && !token.starts_line
 }
 
 impl Reader {
@@ -105,7 +124,7 @@ impl Reader {
         ensures bare { length self.new.bare ≤ 5 }
         ensures more { held_len self.new ≤ held_len self.old + 1 }
     {
-        self.raw.push(*item);
+        self.raw.push(item.copied());
         if self.raw.ahead().len() == 3 {
             self.settle();
         }
@@ -292,6 +311,41 @@ impl Reader {
         }
     }
 
+    /// A token of a text, by what is directly before it, as the pass reads it. It stands apart for
+    /// the reason that [`Sight::glance`] has.
+    fn read_after(
+        &mut self,
+        pass: &mut Joint,
+        found: &mut Found,
+        text: &[u8],
+        before: Before,
+        in_block: bool,
+        token: &Token,
+    ) -> Result<(), AllocError>
+        requires order { token.now.span.start ≤ token.now.span.end }
+        requires end { token.now.span.end ≤ length text.now }
+        requires raw { length self.old.raw ≤ 2 }
+        requires bare { length self.old.bare ≤ 4 }
+        requires small { most_in pass.old + held_len self.old + 1 < 2 ^ 32 }
+        requires left_out { most_left_out self.old + 2 < 2 ^ 32 }
+        ensures reader { IfOk result (λ _. self.new
+            ≡ read_next in_block self.old (token_after text.now before token.now)) }
+        ensures taken { IfOk result
+            (λ _. the_taken pass.new found.new
+            ≡ taken_next in_block self.old (the_taken pass.old found.old)
+            (token_after text.now before token.now)) }
+        ensures small { IfOk result
+            (λ _. most_in pass.new + held_len self.new
+            ≤ most_in pass.old + held_len self.old + 1) }
+        ensures left_out { IfOk result
+            (λ _. most_left_out self.new ≤ most_left_out self.old + 1) }
+        ensures raw { IfOk result (λ _. length self.new.raw ≤ 2) }
+        ensures bare { IfOk result (λ _. length self.new.bare ≤ 4) }
+    {
+        let item = token_after(text, before, token);
+        self.next(pass, found, in_block, &item)
+    }
+
     /// A token of the code.
     pub(crate) fn add(
         &mut self,
@@ -331,9 +385,17 @@ impl Reader {
             self.sight = Sight::new();
             return Ok(());
         }
-        let item = token_after(text, before, token);
-        self.next(pass, found, in_block, &item)?;
-        Ok(())
+        if in_block && opens_block(before, &self.sight, token) && !pass.is_in_file() {
+            pass.enter()?;
+            self.sight = Sight::new();
+            return Ok(());
+        }
+        if in_block && closes_block(token) && pass.is_nested() {
+            pass.leave();
+            self.sight = Sight::new();
+            return Ok(());
+        }
+        self.read_after(pass, found, text, before, in_block, token)
     }
 
     /// The end of the code.

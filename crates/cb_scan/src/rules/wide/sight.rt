@@ -10,6 +10,8 @@ ghost use Rattle.cb_scan.specs.steps.wide.Sights.{
   open_in_phase,
   phase_after,
   phase_past,
+  phase_past_other,
+  phase_past_paren,
   phase_past_word,
   seen_after,
   sight_opening,
@@ -66,20 +68,45 @@ fn phase_past_word(kind: WordKind, word: &[u8]) -> Option<Phase>
     }
 }
 
-/// The phase after a token of a text, if nothing is to open after it either.
+/// The phase after a `(`, where no attribute has begun.
 #[inline(always)]
-fn phase_past(text: &[u8], token: &Token) -> Option<Phase>
+fn phase_past_paren(phase: Phase) -> Option<Phase>
+    ensures { result ≡ phase_past_paren phase }
+{
+    match phase {
+        Phase::Clear | Phase::Paren => Some(Phase::Clear),
+        Phase::Word(true) => Some(Phase::Inside(0)),
+        Phase::Word(false) => Some(Phase::Paren),
+        Phase::Inside(_) => None,
+    }
+}
+
+/// The phase after a string, a number or a character constant, where it is of no attribute.
+#[inline(always)]
+fn phase_past_other(phase: Phase) -> Option<Phase>
+    ensures { result ≡ phase_past_other phase }
+{
+    match phase {
+        Phase::Clear | Phase::Word(_) => Some(Phase::Clear),
+        Phase::Paren | Phase::Inside(_) => None,
+    }
+}
+
+/// The phase after a token of a text, if that is all that it changes where nothing is to open.
+#[inline(always)]
+fn phase_past(phase: Phase, text: &[u8], token: &Token) -> Option<Phase>
     requires order { token.now.span.start ≤ token.now.span.end }
     requires end { token.now.span.end ≤ length text.now }
-    ensures { result ≡ phase_past token.now.role (bytes_of text.now token.now.span) }
+    ensures { result ≡ phase_past phase token.now.role (bytes_of text.now token.now.span) }
 {
     match token.role {
         Role::Word(kind) => phase_past_word(
             kind,
             &text[token.span.start as usize..token.span.end as usize],
         ),
-        Role::Mark(b'(') => None,
-        Role::Mark(_) | Role::Str | Role::Other => Some(Phase::Clear),
+        Role::Mark(b'(') => phase_past_paren(phase),
+        Role::Mark(_) => Some(Phase::Clear),
+        Role::Str | Role::Other => phase_past_other(phase),
     }
 }
 
@@ -162,17 +189,27 @@ impl Sight {
         }
     }
 
+    /// After a token of a text, by what is directly before it. It stands apart, since what it makes
+    /// of the token would else be cleared in memory for each token that says nothing.
+    fn look_after(&mut self, text: &[u8], before: Before, token: &Token)
+        requires order { token.now.span.start ≤ token.now.span.end }
+        requires end { token.now.span.end ≤ length text.now }
+        requires small { open_in_phase self.old.phase + 1 < 2 ^ 32 }
+        ensures value { self.new ≡ look self.old (token_after text.now before token.now) }
+        ensures small { open_in_phase self.new.phase ≤ open_in_phase self.old.phase + 1 }
+    {
+        self.look(&token_after(text, before, token));
+    }
+
     /// Nothing is to open, and no attribute has begun.
     #[inline(always)]
     fn is_idle(&self) -> bool
         ensures { result ≡ is_idle self.now }
     {
-        self.opening.is_none()
-            && self.before.is_none()
-            && matches!(self.phase, Phase::Clear | Phase::Word(_))
+        self.opening.is_none() && self.before.is_none() && !matches!(self.phase, Phase::Inside(_))
     }
 
-    /// After a token of a text, by what is directly before it. Most say nothing.
+    /// The same. Most tokens say nothing.
     #[inline(always)]
     pub(crate) fn glance(&mut self, text: &[u8], before: Before, token: &Token)
         requires order { token.now.span.start ≤ token.now.span.end }
@@ -182,11 +219,11 @@ impl Sight {
         ensures small { open_in_phase self.new.phase ≤ open_in_phase self.old.phase + 1 }
     {
         if self.is_idle() {
-            if let Some(phase) = phase_past(text, token) {
+            if let Some(phase) = phase_past(self.phase, text, token) {
                 self.phase = phase;
                 return;
             }
         }
-        self.look(&token_after(text, before, token));
+        self.look_after(text, before, token);
     }
 }

@@ -7,11 +7,9 @@ ghost use Rattle.cb_scan.specs.steps.wide.Tails.{
   is_called,
   is_candidate,
   is_end,
-  named_after,
   next_tail,
   outer_tail,
   prototype_at,
-  prototype_of,
   tail_start,
   trails,
 };
@@ -135,38 +133,23 @@ impl Tail {
         }
     }
 
-    #[inline(always)]
-    fn prototype_of(&self, ahead: &[WideToken]) -> Option<WideToken>
-        ensures { result ≡ prototype_of self.now ahead.now }
-    {
-        match self.prototype {
-            Some(name) => Some(name),
-            None => self.prototype_at(ahead),
-        }
-    }
-
-    #[inline(always)]
-    fn named_after(&self, ahead: &[WideToken], item: &WideToken) -> Option<WideToken>
-        ensures { result ≡ named_after self.now ahead.now item.now }
-    {
-        if self.is_candidate(ahead) && !self.trails(item) {
-            Some(*item)
-        } else {
-            self.name
-        }
-    }
-
     /// After the first of these tokens, which is outside parentheses and brackets. Whether a type
     /// stands before, and the token before, are left as they are.
     #[inline(always)]
     fn add_outer(&mut self, ahead: &[WideToken], item: &WideToken)
         ensures { self.new ≡ outer_tail self.old ahead.now item.now }
     {
-        let trailed = self.trails(item)
-            || (self.is_candidate(ahead) && !item.role.is_underscored());
-        self.name = self.named_after(ahead, item);
-        self.prototype = self.prototype_of(ahead);
-        self.trailed = trailed;
+        let trails = self.trails(item);
+        let is_candidate = self.is_candidate(ahead);
+        if self.prototype.is_none() {
+            if let Some(name) = self.prototype_at(ahead) {
+                self.prototype = Some(name);
+            }
+        }
+        if is_candidate && !trails {
+            self.name = Some(*item);
+        }
+        self.trailed = trails || (is_candidate && !item.role.is_underscored());
     }
 
     /// After the first of these tokens.

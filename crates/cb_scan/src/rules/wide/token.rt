@@ -14,6 +14,20 @@ pub(crate) struct WideToken {
     pub counted: bool,
 }
 
+impl WideToken {
+    /// The same token, number by number, for the reason that [`Token::copied`] has.
+    #[inline(always)]
+    pub(crate) fn copied(&self) -> WideToken
+        ensures { result ≡ self.now }
+    {
+        WideToken {
+            token: self.token.copied(),
+            role: self.role,
+            counted: self.counted,
+        }
+    }
+}
+
 /// A token of a text, by what is directly before it.
 #[inline(always)]
 pub(crate) fn token_after(text: &[u8], before: Before, token: &Token) -> WideToken
@@ -22,7 +36,7 @@ pub(crate) fn token_after(text: &[u8], before: Before, token: &Token) -> WideTok
     ensures { result ≡ token_after text.now before token.now }
 {
     WideToken {
-        token: *token,
+        token: token.copied(),
         role: wide_role(text, token),
         counted: token.is_mark(b'{') && !matches!(before, Before::Linkage),
     }

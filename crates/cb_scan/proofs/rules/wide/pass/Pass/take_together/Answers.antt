@@ -1,5 +1,5 @@
 -- What is found is of the part of the file that ends, or of the innermost level.
-use Rattle.std.proofs.Common.{◌∙◌, refl, true}
+use Rattle.std.proofs.Common.{◌∙◌, ap, true}
 use Rattle.std.specs.Prelude.{◌++◌}
 use Rattle.std.specs.List.{flat_map}
 use Rattle.cb_scan.specs.steps.wide.Givens.{object_given, typedef_given}
@@ -15,11 +15,12 @@ returns-clause-found c =
     let xs = c.args.ahead.now in
     let l = c.args.found.now in
     let part = parts_joined p xs x c.requires.stays in
-    c.in_ok-define.ensures
-    ∙ other_found x (no_brace p xs x c.requires.stays) l c.end_part.new.self (pass_with true p)
-    (pass_with true p) xs c.found.result
-    (c.in_ok-end_part.ensures ∙ (λ i. record l {
+    let kept = ap (λ q. q.levels) c.in_ok-go_on_together.ensures.pass in
+    c.in_ok-add_in_file.ensures.found
+    ∙ other_found x (no_brace p xs x c.requires.stays) l c.go_on_together.new.found
+    (pass_with true p) c.go_on_together.new.self xs
+    (c.in_ok-go_on_together.ensures.found ∙ (λ i. record l {
       defs = l.defs ++ flat_map typedef_given (part i);
       objects = l.objects ++ flat_map object_given (part i);
     }))
-    refl c.found.ensures
+    kept
