@@ -84,7 +84,6 @@ COMMANDS = {
 }
 # What begins a session rather than a command of it.
 BEGINS = {
-    "cb_index totals_of",
     "cb_session prepare",
     "cb_session run",
 }

@@ -19,7 +19,7 @@ use Rattle.cb_index.specs.Includes.{all_includes, file_includes, include_in}
 use Rattle.cb_index.specs.Rows.{Fact, call_in, calls_in, calls_of, file_calls_in, file_calls_of}
 use Rattle.cb_index.specs.Rows.{file_tags_named, file_uses_of, tag_in, tags_named, use_in, uses_of}
 use Rattle.cb_index.specs.Shelved.{ShownFile, with_facts}
-use Rattle.cb_desk.specs.declared.found.Found.{Found}
+use Rattle.cb_desk.specs.declared.rows.Found.{Found}
 use Rattle.cb_desk.specs.declared.rows.Field.TheVariants.{Symbol, Definition, Called, Calling}
 use Rattle.cb_desk.specs.declared.rows.Field.TheVariants.{File as FileName, Including}
 use Rattle.cb_desk.specs.Answer.{AnswerRow, bytes_of, field_rows, file_rows, found_called}

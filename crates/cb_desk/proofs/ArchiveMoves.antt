@@ -14,7 +14,7 @@ use Rattle.cb_index.specs.declared.entry.Shown.{Shown}
 use Rattle.cb_index.proofs.InOrderLemmas.{in_order_cong}
 use Rattle.cb_index.proofs.FrontLemmas.{get_or_front, get_or_left, slice_get_front, slice_get_left}
 use Rattle.cb_index.proofs.TextLemmas.{same_text}
-use Rattle.cb_desk.specs.declared.spot.NumberedPlace.{NumberedPlace}
+use Rattle.cb_desk.specs.declared.places.NumberedPlace.{NumberedPlace}
 use Rattle.cb_desk.specs.Timeline.{IsValidTimeline}
 use Rattle.cb_desk.specs.Turns.{touched}
 use Rattle.cb_desk.specs.steps.Records.{AreThere, Fits, IsFew, IsTurn, Kept, KeepsRooms, Numbered}

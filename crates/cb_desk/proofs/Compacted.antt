@@ -10,7 +10,7 @@ use Rattle.cb_index.specs.Files.{IsThere, call_count, def_count, files_of, total
 use Rattle.cb_index.specs.Scanned.{Scanned}
 use Rattle.cb_index.specs.Shelved.{Shelved}
 use Rattle.cb_index.specs.declared.entry.Shown.{Shown}
-use Rattle.cb_desk.specs.declared.spot.NumberedPlace.{NumberedPlace}
+use Rattle.cb_desk.specs.declared.places.NumberedPlace.{NumberedPlace}
 use Rattle.cb_desk.specs.Timeline.{IsValidTimeline, forgotten}
 use Rattle.cb_desk.specs.steps.Compacted.{IsCompacted}
 use Rattle.cb_desk.specs.steps.Records.{AreThere, Fits, Kept, KeepsRooms, Numbered, Rooms, place_in}

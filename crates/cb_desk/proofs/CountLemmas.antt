@@ -16,8 +16,8 @@ use Rattle.cb_scan.specs.Lines.{line_text}
 use Rattle.cb_index.specs.Counts.{rows_in_files, same_row, unlike, unlike_in_files}
 use Rattle.cb_index.specs.Rows.{Fact, call_in, calls_in, calls_of, file_calls_in, file_calls_of}
 use Rattle.cb_index.specs.Rows.{file_facts, file_uses_of, use_in, uses_of}
-use Rattle.cb_index.specs.declared.kind.FactKind.{FactKind}
-use Rattle.cb_index.specs.declared.kind.FactKind.TheVariants.{Uses, Callees, Callers}
+use Rattle.cb_index.specs.declared.entry.FactKind.{FactKind}
+use Rattle.cb_index.specs.declared.entry.FactKind.TheVariants.{Uses, Callees, Callers}
 use Rattle.cb_desk.specs.Answer.{AnswerRow, distinct, field_rows, row_eq, unindented}
 use Rattle.cb_desk.specs.World.{File, IsAscending}
 use Rattle.cb_desk.specs.steps.Lent.{asked_by, is_named, row_around, row_named, row_shown}

@@ -5,16 +5,16 @@ use Rattle.std.proofs.Math.Nat.{le-min, min-eq_left, min-eq_right, min-le_left, 
 use Rattle.std.proofs.lemmas.Bool.{cases_Bool, true≢false}
 use Rattle.std.proofs.lemmas.Bool.Decides.{nat_tests}
 use Rattle.std.specs.Prelude.{min, nat_le, IsErr, Result}
-use Rattle.cb_desk.specs.declared.refusal.Refusal.{Refusal}
-use Rattle.cb_desk.specs.declared.refusal.Refusal.TheVariants.{UnknownCommand, LineTooLong}
-use Rattle.cb_desk.specs.declared.refusal.Refusal.TheVariants.{BadCount, InputEnded, BadName}
-use Rattle.cb_desk.specs.declared.refusal.Refusal.TheVariants.{NoSuchFile, FileExists, BadText}
-use Rattle.cb_desk.specs.declared.refusal.Refusal.TheVariants.{TooLarge, TooManyFiles, NoPattern}
-use Rattle.cb_desk.specs.declared.refusal.Refusal.TheVariants.{NoSuchDefinition, NoSuchLine}
-use Rattle.cb_desk.specs.declared.refusal.Refusal.TheVariants.{NothingWanted, NothingMarked}
-use Rattle.cb_desk.specs.declared.refusal.Refusal.TheVariants.{StackEmpty, NothingToUndo}
-use Rattle.cb_desk.specs.declared.refusal.Refusal.TheVariants.{NothingToRedo, HistoryFull}
-use Rattle.cb_desk.specs.declared.refusal.Refusal.TheVariants.{OutOfMemory, NoSuchField}
+use Rattle.cb_desk.specs.declared.change.Refusal.{Refusal}
+use Rattle.cb_desk.specs.declared.change.Refusal.TheVariants.{UnknownCommand, LineTooLong}
+use Rattle.cb_desk.specs.declared.change.Refusal.TheVariants.{BadCount, InputEnded, BadName}
+use Rattle.cb_desk.specs.declared.change.Refusal.TheVariants.{NoSuchFile, FileExists, BadText}
+use Rattle.cb_desk.specs.declared.change.Refusal.TheVariants.{TooLarge, TooManyFiles, NoPattern}
+use Rattle.cb_desk.specs.declared.change.Refusal.TheVariants.{NoSuchDefinition, NoSuchLine}
+use Rattle.cb_desk.specs.declared.change.Refusal.TheVariants.{NothingWanted, NothingMarked}
+use Rattle.cb_desk.specs.declared.change.Refusal.TheVariants.{StackEmpty, NothingToUndo}
+use Rattle.cb_desk.specs.declared.change.Refusal.TheVariants.{NothingToRedo, HistoryFull}
+use Rattle.cb_desk.specs.declared.change.Refusal.TheVariants.{OutOfMemory, NoSuchField}
 use Rattle.cb_scan.specs.declared.profile.Profile.{Profile}
 use Rattle.cb_scan.specs.Profiles.{facts_in}
 use Rattle.cb_desk.specs.Desk.{Counts, CountsUpTo, IsBetween, bytes_in, counted, definitions_in}

@@ -17,7 +17,7 @@ use Rattle.cb_index.specs.declared.entry.Shown.{Shown}
 use Rattle.cb_index.proofs.InOrderLemmas.{map_in_order}
 use Rattle.cb_index.proofs.AscendLemmas.{ascending_sorted}
 use Rattle.cb_index.proofs.ListedLemmas.{ascending_apart, ascending_in_order, other_turned}
-use Rattle.cb_desk.specs.declared.spot.NumberedPlace.{NumberedPlace}
+use Rattle.cb_desk.specs.declared.places.NumberedPlace.{NumberedPlace}
 use Rattle.cb_desk.specs.Files.{loaded, reloaded, renamed, unloaded, with_file}
 use Rattle.cb_desk.specs.Places.{is_in, renamed_place, renamed_places, without_places}
 use Rattle.cb_desk.specs.World.{File, Place, has_file, place_key}

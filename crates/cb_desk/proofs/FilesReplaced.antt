@@ -8,7 +8,7 @@ use Rattle.bstr.specs.Text.{lines_of}
 use Rattle.cb_index.specs.Archived.{Archived}
 use Rattle.cb_index.specs.Files.{file_of, files_of}
 use Rattle.cb_index.specs.declared.entry.Shown.{Shown}
-use Rattle.cb_desk.specs.declared.spot.NumberedPlace.{NumberedPlace}
+use Rattle.cb_desk.specs.declared.places.NumberedPlace.{NumberedPlace}
 use Rattle.cb_desk.specs.Desk.{is_marked, new_texts}
 use Rattle.cb_desk.specs.Marks.{is_too_large, marked_lines, replaced_file, replaced_files}
 use Rattle.cb_desk.specs.Places.{is_in}

@@ -8,7 +8,7 @@ use Rattle.std.proofs.lemmas.Map.Text.{is_eq-slice_cmp}
 use Rattle.std.proofs.lemmas.Slice.Eq.{bytes_eq-Decides}
 use Rattle.cb_scan.specs.declared.profile.Profile.{Profile}
 use Rattle.cb_scan.specs.Lines.{line_text}
-use Rattle.cb_desk.specs.declared.found.Found.{Found}
+use Rattle.cb_desk.specs.declared.rows.Found.{Found}
 use Rattle.cb_desk.specs.declared.rows.Field.{Field}
 use Rattle.cb_desk.specs.declared.rows.Field.TheVariants.{Symbol, Definition, Called, Calling, Text}
 use Rattle.cb_desk.specs.declared.rows.Field.TheVariants.{File as FileName, Including}

@@ -10,7 +10,7 @@ use Rattle.cb_scan.specs.Order.{goes_first, put}
 use Rattle.cb_index.specs.Archived.{Archived, name_of}
 use Rattle.cb_index.specs.Files.{files_of}
 use Rattle.cb_index.specs.declared.entry.Shown.{Shown}
-use Rattle.cb_desk.specs.declared.spot.NumberedPlace.{NumberedPlace}
+use Rattle.cb_desk.specs.declared.places.NumberedPlace.{NumberedPlace}
 use Rattle.cb_desk.specs.Marks.{toggled}
 use Rattle.cb_desk.specs.Places.{nth, same_place}
 use Rattle.cb_desk.specs.Search.{lines_with}

@@ -10,7 +10,7 @@ use Rattle.cb_scan.specs.Order.{AreOrdered}
 use Rattle.cb_index.specs.Archived.{Archived, name_of}
 use Rattle.cb_index.specs.Files.{AreAscending, file_of}
 use Rattle.cb_index.specs.declared.entry.Shown.{Shown}
-use Rattle.cb_desk.specs.declared.spot.NumberedPlace.{NumberedPlace}
+use Rattle.cb_desk.specs.declared.places.NumberedPlace.{NumberedPlace}
 use Rattle.cb_desk.specs.Places.{is_in}
 use Rattle.cb_desk.specs.World as world
 use Rattle.cb_desk.specs.World.{is_named}

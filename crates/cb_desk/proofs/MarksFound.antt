@@ -11,7 +11,7 @@ use Rattle.std.specs.List.{AllByRecursion, AllWithin, prefix_len}
 use Rattle.std.specs.List.Sorted.{IsPartitionedBy, IsStrictlySortedBy}
 use Rattle.std.specs.Ordering.{ordering_then}
 use Rattle.cb_index.specs.Archived.{Archived, name_of}
-use Rattle.cb_desk.specs.declared.spot.NumberedPlace.{NumberedPlace}
+use Rattle.cb_desk.specs.declared.places.NumberedPlace.{NumberedPlace}
 use Rattle.cb_desk.specs.Marks.{marked_lines}
 use Rattle.cb_desk.specs.Places.{is_in}
 use Rattle.cb_desk.specs.World.{AreAscending, Place, place_key}

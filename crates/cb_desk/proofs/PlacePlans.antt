@@ -13,7 +13,7 @@ use Rattle.cb_index.specs.declared.entry.Shown.{Shown}
 use Rattle.cb_index.proofs.AscendLemmas.{ascending_sorted}
 use Rattle.cb_index.proofs.ListedLemmas.{ascending_apart}
 use Rattle.cb_desk.specs.declared.edits.Edit.{Edit}
-use Rattle.cb_desk.specs.declared.spot.NumberedPlace.{NumberedPlace}
+use Rattle.cb_desk.specs.declared.places.NumberedPlace.{NumberedPlace}
 use Rattle.std.proofs.lemmas.List.{length-map}
 use Rattle.cb_desk.specs.Stack.{popped}
 use Rattle.cb_desk.specs.declared.renaming.Renaming.{Renaming}

@@ -18,8 +18,8 @@ use Rattle.cb_index.specs.Archived.{Archived, name_of}
 use Rattle.cb_index.specs.Compact.{shows_version}
 use Rattle.cb_index.specs.Files.{AreAscending, file_of, files_of, shown_name}
 use Rattle.cb_index.specs.declared.entry.Shown.{Shown}
-use Rattle.cb_desk.specs.declared.present.renewal.Renewal.{Renewal}
-use Rattle.cb_desk.specs.declared.spot.NumberedPlace.{NumberedPlace}
+use Rattle.cb_desk.specs.declared.present.replace.Renewal.{Renewal}
+use Rattle.cb_desk.specs.declared.places.NumberedPlace.{NumberedPlace}
 use Rattle.cb_desk.specs.Marks.{replaced_files, with_files}
 use Rattle.cb_desk.specs.Places.{is_place_of}
 use Rattle.cb_desk.specs.World.{File}

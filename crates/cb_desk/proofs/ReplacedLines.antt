@@ -6,7 +6,7 @@ use Rattle.std.proofs.Math.Nat.{le-mul_of_pos_right, mul-le-mul_left}
 use Rattle.bstr.specs.Owned.{joined}
 use Rattle.bstr.specs.Text.{split_at, part, replaced_at, without_terminator}
 use Rattle.memchr.specs.Find.{matches}
-use Rattle.cb_desk.specs.declared.limits.TheConstants.{MOST_BYTES}
+use Rattle.cb_desk.specs.declared.bounds.TheConstants.{MOST_BYTES}
 use Rattle.cb_desk.specs.Replacement.{gaps_of, replaced, replaced_line, line_end}
 use Rattle.cb_desk.proofs.Gaps.{joined-next, joined-one, first-gap, has-cut, some-length}
 

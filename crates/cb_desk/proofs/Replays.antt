@@ -1,8 +1,8 @@
 -- A timeline and the changes that survive move together.
 use Rattle.std.proofs.Common.{◌≡◌, ◌∙◌, sym, ap, refl, suc, true, false, cond, List, [], ◌∷◌}
 use Rattle.std.proofs.Common.{length, Result, Ok, Err, nat_le}
-use Rattle.cb_desk.specs.declared.refusal.Refusal.{Refusal}
-use Rattle.cb_desk.specs.declared.refusal.Refusal.TheVariants.{HistoryFull}
+use Rattle.cb_desk.specs.declared.change.Refusal.{Refusal}
+use Rattle.cb_desk.specs.declared.change.Refusal.TheVariants.{HistoryFull}
 use Rattle.cb_desk.specs.Step.{Step, step}
 use Rattle.cb_desk.specs.Survivors.{Kept, Move, TimelineIsReplayed, change, joined, kept_after}
 use Rattle.cb_desk.specs.Survivors.{kept_by, moved_after, moved_by, none_kept, or_before, or_stays}

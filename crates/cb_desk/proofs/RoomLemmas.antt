@@ -9,7 +9,7 @@ use Rattle.cb_index.specs.Files.{call_count, def_count, shown_name, total, use_c
 use Rattle.cb_index.specs.Names.{is_among, names_of}
 use Rattle.cb_index.specs.Shelved.{AreTotals}
 use Rattle.cb_index.specs.declared.entry.Shown.{Shown}
-use Rattle.cb_index.specs.declared.room.Room.{Room}
+use Rattle.cb_index.specs.declared.shelf.Room.{Room}
 use Rattle.cb_index.specs.declared.totals.Totals.{Totals}
 use Rattle.cb_index.proofs.InOrderLemmas.{length_in_order}
 use Rattle.cb_index.proofs.FrontLemmas.{length_front}

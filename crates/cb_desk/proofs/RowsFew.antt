@@ -13,13 +13,13 @@ use Rattle.cb_index.specs.Archived.{Archived, text_at, text_of}
 use Rattle.cb_index.specs.Files.{IsThere, count_for, file_of, files_of, total}
 use Rattle.cb_index.specs.Shelved.{AreTotals}
 use Rattle.cb_index.specs.declared.entry.Shown.{Shown}
-use Rattle.cb_index.specs.declared.kind.FactKind.{FactKind}
-use Rattle.cb_index.specs.declared.kind.IndexKind.TheVariants.{Facts}
+use Rattle.cb_index.specs.declared.entry.FactKind.{FactKind}
+use Rattle.cb_index.specs.declared.entry.IndexKind.TheVariants.{Facts}
 use Rattle.cb_index.specs.declared.totals.Totals.{Totals}
-use Rattle.cb_index.specs.declared.kind.FactKind.TheVariants.{Uses, Callees, Callers}
+use Rattle.cb_index.specs.declared.entry.FactKind.TheVariants.{Uses, Callees, Callers}
 use Rattle.cb_desk.specs.steps.Lent.{asked_by}
-use Rattle.cb_desk.specs.declared.found.Found.{Found}
-use Rattle.cb_desk.specs.declared.limits.TheConstants.{MOST_BYTES}
+use Rattle.cb_desk.specs.declared.rows.Found.{Found}
+use Rattle.cb_desk.specs.declared.bounds.TheConstants.{MOST_BYTES}
 use Rattle.cb_desk.specs.declared.rows.Field.{Field}
 use Rattle.cb_desk.specs.declared.rows.Field.TheVariants.{Symbol, Called, Calling, File as FileName}
 use Rattle.cb_desk.specs.declared.rows.Field.TheVariants.{Including}

@@ -2,8 +2,8 @@
 use Rattle.std.proofs.Common.{◌≡◌, refl, ap, Bool, true, false, ◌&&◌, eqb}
 use Rattle.std.proofs.lemmas.Bool.Decides.{Decides-eqb}
 use Rattle.std.specs.Bool.{Decides}
-use Rattle.cb_desk.specs.contracts.spot.NumberedPlacePartialEq.TheImpl.{eq-value}
-use Rattle.cb_desk.specs.declared.spot.NumberedPlace.{NumberedPlace}
+use Rattle.cb_desk.specs.contracts.places.NumberedPlacePartialEq.TheImpl.{eq-value}
+use Rattle.cb_desk.specs.declared.places.NumberedPlace.{NumberedPlace}
 
 both_parts : (x y : Bool) → (x && y) ≡ true → (x ≡ true) × (y ≡ true)
 both_parts true y is = (refl, is)

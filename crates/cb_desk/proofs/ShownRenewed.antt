@@ -25,7 +25,7 @@ use Rattle.cb_index.specs.declared.entry.Shown.{Shown}
 use Rattle.cb_index.proofs.InOrderLemmas.{same_order}
 use Rattle.cb_index.proofs.AscendLemmas.{ascending_filter, ascending_sorted}
 use Rattle.cb_index.proofs.ListedLemmas.{ascending_apart, order_by_name, other_turned, shown_exact}
-use Rattle.cb_desk.specs.declared.present.renewal.Renewal.{Renewal}
+use Rattle.cb_desk.specs.declared.present.replace.Renewal.{Renewal}
 use Rattle.cb_desk.specs.steps.Records.{without}
 use Rattle.cb_desk.specs.steps.Replaced.{new_of, old_of, renewals}
 use Rattle.cb_desk.proofs.PlacePlans.{settled}

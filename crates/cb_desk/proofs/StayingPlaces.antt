@@ -9,7 +9,7 @@ use Rattle.cb_scan.specs.Lines.{lines}
 use Rattle.cb_index.specs.Archived.{Archived, name_of}
 use Rattle.cb_index.specs.Files.{AreAscending, file_of, files_of}
 use Rattle.cb_index.specs.declared.entry.Shown.{Shown}
-use Rattle.cb_desk.specs.declared.spot.NumberedPlace.{NumberedPlace}
+use Rattle.cb_desk.specs.declared.places.NumberedPlace.{NumberedPlace}
 use Rattle.cb_desk.specs.Places.{is_in, is_place_of}
 use Rattle.cb_desk.specs.World.{File, IsAscending, IsPlaceOf, Place, has_file, is_named}
 use Rattle.cb_desk.specs.World.{text_of_file}

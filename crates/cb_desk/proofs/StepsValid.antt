@@ -5,10 +5,10 @@ use Rattle.std.proofs.Common.{Some, None, nat_le, nat_lt}
 use Rattle.std.specs.List.{list_any}
 use Rattle.std.specs.List.Sorted.{IsStrictlySortedBy}
 use Rattle.cb_scan.specs.Lines.{IsLineOf}
-use Rattle.cb_desk.specs.declared.limits.TheConstants.{MOST_BYTES}
-use Rattle.cb_desk.specs.declared.refusal.Refusal.{Refusal}
-use Rattle.cb_desk.specs.declared.refusal.Refusal.TheVariants.{BadName, NoSuchFile, FileExists}
-use Rattle.cb_desk.specs.declared.refusal.Refusal.TheVariants.{BadText, TooLarge, TooManyFiles}
+use Rattle.cb_desk.specs.declared.bounds.TheConstants.{MOST_BYTES}
+use Rattle.cb_desk.specs.declared.change.Refusal.{Refusal}
+use Rattle.cb_desk.specs.declared.change.Refusal.TheVariants.{BadName, NoSuchFile, FileExists}
+use Rattle.cb_desk.specs.declared.change.Refusal.TheVariants.{BadText, TooLarge, TooManyFiles}
 use Rattle.cb_tags.specs.Names.{is_file_name}
 use Rattle.cb_desk.specs.World.{World, File, Place, has_file, text_of_file, is_short, IsPlaceOf}
 use Rattle.cb_desk.specs.World.{IsMarkIn, AreMarksFor, AreValidMarks, IsValidWorld}

@@ -6,7 +6,7 @@ use Rattle.std.proofs.lemmas.List.FromFn.{length-range_with_len}
 use Rattle.bstr.specs.Text.{lines_of, without_terminator}
 use Rattle.cb_scan.specs.Lines.{lines, line_text}
 use Rattle.cb_scan.proofs.LineTable.{lines-few}
-use Rattle.cb_desk.specs.declared.limits.TheConstants.{MOST_BYTES, MOST_FILES}
+use Rattle.cb_desk.specs.declared.bounds.TheConstants.{MOST_BYTES, MOST_FILES}
 use Rattle.cb_desk.specs.Answer.{text_rows_in, line_row}
 use Rattle.cb_desk.specs.Search.{holds, lines_with}
 use Rattle.cb_desk.specs.World.{AreValidFiles, File, widest_bounds}

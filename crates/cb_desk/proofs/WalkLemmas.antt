@@ -12,7 +12,7 @@ use Rattle.cb_scan.specs.Order.{in_order}
 use Rattle.cb_index.specs.Archived.{Archived}
 use Rattle.cb_index.specs.Files.{AreApart, shown_name}
 use Rattle.cb_desk.specs.declared.edits.Edit.{Edit}
-use Rattle.cb_desk.specs.declared.refusal.Refusal.TheVariants.{NothingToUndo, NothingToRedo}
+use Rattle.cb_desk.specs.declared.change.Refusal.TheVariants.{NothingToUndo, NothingToRedo}
 use Rattle.cb_desk.specs.Timeline.{IsValidTimeline, Timeline, new_timeline, undone, redone}
 use Rattle.cb_desk.specs.Turns.{touched}
 use Rattle.cb_desk.specs.World.{AreBounds, IsValidWorld, WorldBounds, empty_world}

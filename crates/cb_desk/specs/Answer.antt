@@ -13,7 +13,7 @@ use Rattle.cb_scan.specs.declared.lex.piece.Span.{Span}
 use Rattle.cb_scan.specs.Profiles.{facts_in, is_declaration}
 use Rattle.cb_scan.specs.Lines.{line_text}
 use Rattle.cb_scan.specs.TextFacts.{TextFacts}
-use Rattle.cb_desk.specs.declared.found.Found.{Found}
+use Rattle.cb_desk.specs.declared.rows.Found.{Found}
 use Rattle.cb_desk.specs.declared.rows.Field.{Field}
 use Rattle.cb_desk.specs.declared.rows.Field.TheVariants.{Symbol, Definition, Called, Calling}
 use Rattle.cb_desk.specs.declared.rows.Field.TheVariants.{Text, File as FileName, Including}

@@ -4,9 +4,9 @@ use Rattle.std.specs.Prelude.{if◌then◌else◌, filter, not}
 use Rattle.std.specs.Ordering.{nat_cmp, is_lt}
 use Rattle.std.specs.Cmp.Lexicographic.{slice_cmp}
 use Rattle.cb_tags.specs.Names.{is_file_name}
-use Rattle.cb_desk.specs.declared.refusal.Refusal.{Refusal}
-use Rattle.cb_desk.specs.declared.refusal.Refusal.TheVariants.{BadName, NoSuchFile, FileExists}
-use Rattle.cb_desk.specs.declared.refusal.Refusal.TheVariants.{TooLarge, TooManyFiles}
+use Rattle.cb_desk.specs.declared.change.Refusal.{Refusal}
+use Rattle.cb_desk.specs.declared.change.Refusal.TheVariants.{BadName, NoSuchFile, FileExists}
+use Rattle.cb_desk.specs.declared.change.Refusal.TheVariants.{TooLarge, TooManyFiles}
 use Rattle.cb_scan.specs.Order.{in_order}
 use Rattle.cb_desk.specs.Places.{without_places, renamed_places}
 use Rattle.cb_desk.specs.World.{World, File, is_named, has_file, text_of_file, place_key}

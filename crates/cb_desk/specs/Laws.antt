@@ -1,6 +1,6 @@
 -- What follows from the definitions of worlds and timelines.
 use Rattle.std.specs.Prelude.{◌≡◌, ◌∷◌, [], Ok}
-use Rattle.cb_desk.specs.declared.limits.TheConstants.{MOST_BYTES, MOST_FILES, MOST_TEXT}
+use Rattle.cb_desk.specs.declared.bounds.TheConstants.{MOST_BYTES, MOST_FILES, MOST_TEXT}
 use Rattle.cb_desk.specs.World.{World, IsValidWorld}
 use Rattle.cb_desk.specs.Step.{Step, step}
 use Rattle.cb_desk.specs.Timeline.{Timeline, changed, forgotten, undone, redone, IsValidTimeline}

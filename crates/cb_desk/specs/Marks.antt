@@ -3,10 +3,10 @@ use Rattle.std.specs.Prelude.{ℕ, Bool, nat_lt, List, [], ◌∷◌, length, Op
 use Rattle.std.specs.Prelude.{if◌then◌else◌, filter, map, not}
 use Rattle.std.specs.List.{list_any}
 use Rattle.cb_scan.specs.Order.{put}
-use Rattle.cb_desk.specs.declared.refusal.Refusal.{Refusal}
-use Rattle.cb_desk.specs.declared.refusal.Refusal.TheVariants.{BadText, TooLarge, NoPattern}
-use Rattle.cb_desk.specs.declared.refusal.Refusal.TheVariants.{NoSuchLine, NothingWanted}
-use Rattle.cb_desk.specs.declared.refusal.Refusal.TheVariants.{NothingMarked}
+use Rattle.cb_desk.specs.declared.change.Refusal.{Refusal}
+use Rattle.cb_desk.specs.declared.change.Refusal.TheVariants.{BadText, TooLarge, NoPattern}
+use Rattle.cb_desk.specs.declared.change.Refusal.TheVariants.{NoSuchLine, NothingWanted}
+use Rattle.cb_desk.specs.declared.change.Refusal.TheVariants.{NothingMarked}
 use Rattle.cb_desk.specs.declared.rows.Field.TheVariants.{Text}
 use Rattle.cb_desk.specs.Answer.{AnswerRow, answer}
 use Rattle.cb_desk.specs.Places.{is_in, same_place, is_place_of}

@@ -1,15 +1,15 @@
 -- The table of refusals: each with its number and its text.
 use Rattle.std.specs.Prelude.{ℕ, List, codes}
-use Rattle.cb_desk.specs.declared.refusal.Refusal.{Refusal}
-use Rattle.cb_desk.specs.declared.refusal.Refusal.TheVariants.{UnknownCommand, LineTooLong}
-use Rattle.cb_desk.specs.declared.refusal.Refusal.TheVariants.{BadCount, InputEnded, BadName}
-use Rattle.cb_desk.specs.declared.refusal.Refusal.TheVariants.{NoSuchFile, FileExists, BadText}
-use Rattle.cb_desk.specs.declared.refusal.Refusal.TheVariants.{TooLarge, TooManyFiles, NoPattern}
-use Rattle.cb_desk.specs.declared.refusal.Refusal.TheVariants.{NoSuchDefinition, NoSuchLine}
-use Rattle.cb_desk.specs.declared.refusal.Refusal.TheVariants.{NothingWanted, NothingMarked}
-use Rattle.cb_desk.specs.declared.refusal.Refusal.TheVariants.{StackEmpty, NothingToUndo}
-use Rattle.cb_desk.specs.declared.refusal.Refusal.TheVariants.{NothingToRedo, HistoryFull}
-use Rattle.cb_desk.specs.declared.refusal.Refusal.TheVariants.{OutOfMemory, NoSuchField}
+use Rattle.cb_desk.specs.declared.change.Refusal.{Refusal}
+use Rattle.cb_desk.specs.declared.change.Refusal.TheVariants.{UnknownCommand, LineTooLong}
+use Rattle.cb_desk.specs.declared.change.Refusal.TheVariants.{BadCount, InputEnded, BadName}
+use Rattle.cb_desk.specs.declared.change.Refusal.TheVariants.{NoSuchFile, FileExists, BadText}
+use Rattle.cb_desk.specs.declared.change.Refusal.TheVariants.{TooLarge, TooManyFiles, NoPattern}
+use Rattle.cb_desk.specs.declared.change.Refusal.TheVariants.{NoSuchDefinition, NoSuchLine}
+use Rattle.cb_desk.specs.declared.change.Refusal.TheVariants.{NothingWanted, NothingMarked}
+use Rattle.cb_desk.specs.declared.change.Refusal.TheVariants.{StackEmpty, NothingToUndo}
+use Rattle.cb_desk.specs.declared.change.Refusal.TheVariants.{NothingToRedo, HistoryFull}
+use Rattle.cb_desk.specs.declared.change.Refusal.TheVariants.{OutOfMemory, NoSuchField}
 
 -- the number of a refusal
 abbrev pub number_of : Refusal → ℕ

@@ -5,8 +5,8 @@ use Rattle.std.specs.List.{flat_map}
 use Rattle.cb_scan.specs.declared.profile.Profile.{Profile}
 use Rattle.cb_scan.specs.declared.facts.Def.{Def}
 use Rattle.cb_scan.specs.Profiles.{facts_in}
-use Rattle.cb_desk.specs.declared.refusal.Refusal.{Refusal}
-use Rattle.cb_desk.specs.declared.refusal.Refusal.TheVariants.{NoSuchDefinition, StackEmpty}
+use Rattle.cb_desk.specs.declared.change.Refusal.{Refusal}
+use Rattle.cb_desk.specs.declared.change.Refusal.TheVariants.{NoSuchDefinition, StackEmpty}
 use Rattle.cb_desk.specs.Answer.{defines}
 use Rattle.cb_desk.specs.World.{World, File, Place}
 

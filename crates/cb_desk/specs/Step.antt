@@ -1,6 +1,6 @@
 -- What a change does to a world, and why it is refused.
 use Rattle.std.specs.Prelude.{ℕ, List, Option, None, Some, Result, Ok, Err}
-use Rattle.cb_desk.specs.declared.refusal.Refusal.{Refusal}
+use Rattle.cb_desk.specs.declared.change.Refusal.{Refusal}
 use Rattle.cb_desk.specs.World.{World, Place}
 use Rattle.cb_desk.specs.Files.{load_refusal, loaded, reload_refusal, reloaded, unload_refusal}
 use Rattle.cb_desk.specs.Files.{unloaded, rename_refusal, renamed}

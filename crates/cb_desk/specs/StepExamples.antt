@@ -5,9 +5,9 @@ use Rattle.cb_scan.specs.Profiles.{all_by}
 use Rattle.cb_scan.specs.Definitions.{definitions_from}
 use Rattle.cb_scan.specs.examples.Functions.{finding}
 use Rattle.cb_scan.specs.Order.{put, in_order}
-use Rattle.cb_desk.specs.declared.refusal.Refusal.TheVariants.{BadName, NoSuchFile, FileExists}
-use Rattle.cb_desk.specs.declared.refusal.Refusal.TheVariants.{NoSuchDefinition, StackEmpty}
-use Rattle.cb_desk.specs.declared.refusal.Refusal.TheVariants.{TooLarge, TooManyFiles}
+use Rattle.cb_desk.specs.declared.change.Refusal.TheVariants.{BadName, NoSuchFile, FileExists}
+use Rattle.cb_desk.specs.declared.change.Refusal.TheVariants.{NoSuchDefinition, StackEmpty}
+use Rattle.cb_desk.specs.declared.change.Refusal.TheVariants.{TooLarge, TooManyFiles}
 use Rattle.cb_desk.specs.World.{World, WorldBounds, File, Place, empty_world}
 use Rattle.cb_desk.specs.World.{standard_bounds, text_of_file}
 use Rattle.cb_desk.specs.Step.{step, load, reload, unload, rename, tag, pop}

@@ -2,7 +2,7 @@
 -- say where they lead.
 use Rattle.std.specs.Prelude.{◌≡◌, nat_le, Bool, true, false, List, [], ◌∷◌, length, Result}
 use Rattle.std.specs.Prelude.{Ok, Err, if◌then◌else◌}
-use Rattle.cb_desk.specs.declared.refusal.Refusal.{Refusal}
+use Rattle.cb_desk.specs.declared.change.Refusal.{Refusal}
 use Rattle.cb_desk.specs.Step.{Step, step}
 use Rattle.cb_desk.specs.Timeline.{Timeline, new_timeline, changed, undone, redone, judged}
 use Rattle.cb_desk.specs.World.{World, WorldBounds, empty_world}

@@ -12,8 +12,8 @@ use Rattle.cb_scan.specs.Profiles.{facts_in}
 use Rattle.cb_tags.specs.TagLines.{Tag, TagScope}
 use Rattle.cb_tags.specs.TagLines.{plain_line, extended_line, listing_line, head_lines}
 use Rattle.cb_tags.specs.TagNames.{tag_name}
-use Rattle.cb_desk.specs.declared.tags.Format.{Format}
-use Rattle.cb_desk.specs.declared.tags.Format.TheVariants.{Plain, Extended}
+use Rattle.cb_desk.specs.declared.rows.Format.{Format}
+use Rattle.cb_desk.specs.declared.rows.Format.TheVariants.{Plain, Extended}
 use Rattle.cb_desk.specs.Answer.{name_of}
 use Rattle.cb_desk.specs.World.{World, File}
 

@@ -13,7 +13,7 @@ use Rattle.cb_scan.specs.Bytes.{line_feed}
 use Rattle.cb_scan.specs.Lines.{IsLineOf, line_text}
 use Rattle.cb_index.specs.Files.{File as IndexFile}
 use Rattle.cb_tags.specs.Names.{is_file_name}
-use Rattle.cb_desk.specs.declared.limits.TheConstants.{MOST_BYTES, MOST_FILES, MOST_TEXT}
+use Rattle.cb_desk.specs.declared.bounds.TheConstants.{MOST_BYTES, MOST_FILES, MOST_TEXT}
 use Rattle.cb_desk.specs.Search.{holds}
 
 -- a file: its name and its text

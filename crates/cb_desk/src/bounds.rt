@@ -1,9 +1,18 @@
-//! How large a session may grow.
+//! How large a session may grow, and the limits of what it keeps.
 ghost use Rattle.std.specs.Prelude.{◌≡◌, ◌≤◌};
 ghost use Rattle.cb_desk.specs.World.{AreBounds, WorldBounds, standard_bounds};
-ghost use Rattle.cb_desk.specs.declared.limits.TheConstants.{MOST_BYTES, MOST_FILES};
+ghost use Rattle.cb_desk.specs.declared.bounds.TheConstants.{MOST_BYTES, MOST_FILES};
 
 use std::marker::Model;
+
+/// The most bytes that bounds allow a file.
+pub const MOST_BYTES: u32 = 268_435_456;
+
+/// The most files that bounds allow a world.
+pub const MOST_FILES: u32 = 1_048_576;
+
+/// The most bytes of a text that is wanted, or that is put in place of one.
+pub const MOST_TEXT: usize = 4_096;
 
 /// The bounds of a session: the most files, the most bytes of each, and the most changes that can
 /// be undone. Within the widest bounds no number wraps.

@@ -15,7 +15,7 @@ ghost use Rattle.std.specs.Option.{option_map};
 ghost use Rattle.cb_desk.specs.Desk.{counted};
 ghost use Rattle.cb_desk.specs.Models.{step_of};
 ghost use Rattle.cb_desk.specs.Step.{place_of};
-ghost use Rattle.cb_desk.specs.declared.spot.NumberedPlace.{NumberedPlace};
+ghost use Rattle.cb_desk.specs.declared.places.NumberedPlace.{NumberedPlace};
 ghost use Rattle.cb_desk.specs.steps.Records.{moves, place_in, world_in};
 ghost use Rattle.cb_desk.specs.steps.Still.{AreStill};
 ghost use Rattle.cb_desk.specs.World.{World, IsValidWorld};
@@ -32,10 +32,9 @@ ghost use Rattle.cb_desk.specs.Timeline.{
 ghost use Rattle.cb_desk.specs.Turns.{Turns};
 ghost use Rattle.cb_desk.specs.steps.Walks.{IsKept, next_moves, timeline_in, turns_on};
 
-use crate::plan::Plan;
+use crate::places::NumberedPlace;
+use crate::plan::{Plan, Record};
 use crate::present::Present;
-use crate::record::Record;
-use crate::spot::NumberedPlace;
 use crate::{Bounds, Change, Refusal};
 use cb_index::{FactKind, IndexKind};
 use cb_scan::Profile;

@@ -6,38 +6,35 @@
 //! The layer above uses the contracts of [`Desk`].
 #![tactic(auto)]
 
-mod answers;
+// What a session asks of the files, and how large it may grow.
 mod bounds;
 mod change;
-mod edits;
-mod found;
+mod rows;
+
+// The desk, the files that it begins with, and its past and future.
 mod history;
-pub mod laws;
-mod limits;
-mod line;
-mod new_versions;
-mod place_edits;
-mod place_list;
-mod places;
+mod state;
+
+// The present world, and what a change brings and does before anything moves.
 mod plan;
 mod present;
-mod record;
-mod refusal;
-mod renaming;
-mod rows;
-mod scanned;
+
+// The answers, row by row, and the lines of a text that hold another.
+mod answers;
 mod search;
-mod spot;
-mod state;
-mod tags;
+
+// Places of a world, and what a change does to a list of them: place by place, as a file that gets
+// another number, or in the shorter of these forms.
+mod edits;
+mod places;
+mod renaming;
+
+// What follows from the definitions alone.
+pub mod laws;
 
 pub use answers::{Definitions, Files, Rows, TagRows, Uses};
-pub use bounds::Bounds;
-pub use change::Change;
-pub use found::is_header;
-pub use limits::{MOST_BYTES, MOST_FILES};
+pub use bounds::{Bounds, MOST_BYTES, MOST_FILES};
+pub use change::{Change, Refusal};
 pub use places::Places;
-pub use refusal::Refusal;
-pub use rows::{Field, RefRow, line_row, unindented};
+pub use rows::{Field, Format, RefRow, is_header, line_row, unindented};
 pub use state::Desk;
-pub use tags::Format;

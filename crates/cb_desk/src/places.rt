@@ -1,12 +1,100 @@
-//! Places of a world: lines of files, as marks and as frames of the tag stack.
-ghost use Rattle.std.specs.Prelude.{◌≡◌, length, map};
+//! Places of a world: lines of files, as marks and as frames of the tag stack. In memory they are
+//! numbers, with room to write what edits make of them.
+ghost use Rattle.std.specs.Prelude.{◌≡◌, ◌≤◌, ◌+◌, ◌++◌, ◌∷◌, [], IfErr, OnOk, length, map};
 ghost use Rattle.std.specs.Iterator.{YieldsFirstBy, YieldsLastBy, item_count};
 ghost use Rattle.cb_desk.specs.Models.{place_at};
+ghost use Rattle.cb_desk.specs.steps.Edits.{edited};
 ghost use Rattle.cb_desk.specs.steps.Records.{place_in};
 
-use crate::spot::NumberedPlace;
+use crate::edits::PlaceEdits;
 use cb_index::Archive;
+use std::alloc::{AllocError, Global};
 use std::marker::Model;
+use std::mem;
+
+// ---- in numbers
+
+/// A line of a file, from 1: a mark, or a frame of the tag stack. The file is told by the number of
+/// its name in the archive.
+#[derive(Clone, Copy, Debug, PartialEq, Eq)]
+pub(crate) struct NumberedPlace {
+    pub(crate) name: u32,
+    pub(crate) line: u32,
+}
+
+/// A list of places, and room for as many again, to which edits are written.
+#[derive(Drop)]
+pub(crate) struct PlaceList {
+    places: Vec<NumberedPlace>,
+    spare: Vec<NumberedPlace>,
+}
+
+impl Model for PlaceList {
+    ghost use Rattle.std.specs.Prelude.{min, vec_capacity};
+    ghost use Rattle.cb_desk.specs.steps.Records.{PlacesHeld};
+
+    ghost Value = { PlacesHeld };
+
+    ghost view = { λ p. record {
+      places = p.places.items;
+      room = min (vec_capacity p.places) (vec_capacity p.spare);
+    } };
+}
+
+impl PlaceList {
+    /// No places. It takes no memory.
+    pub(crate) fn new(alloc: Global) -> PlaceList
+        ensures { result.places ≡ [] }
+    {
+        PlaceList {
+            places: Vec::new(alloc),
+            spare: Vec::new(alloc),
+        }
+    }
+
+    /// The places.
+    pub(crate) fn as_slice(&self) -> &[NumberedPlace]
+        ensures { result.now ≡ self.now.places }
+    {
+        self.places.as_slice()
+    }
+
+    /// Makes room for `count` places in all.
+    pub(crate) fn reserve(&mut self, count: usize) -> Result<(), AllocError>
+        ensures value { OnOk result (count ≤ self.new.room) }
+        ensures places { self.new.places ≡ self.old.places }
+        ensures room { self.old.room ≤ self.new.room }
+    {
+        self.places
+            .reserve(count.saturating_sub(self.places.len()))?;
+        self.spare.reserve(count.saturating_sub(self.spare.len()))?;
+        Ok(())
+    }
+
+    /// Makes room for `more` places more.
+    pub(crate) fn reserve_more(&mut self, more: usize) -> Result<(), AllocError>
+        ensures value { OnOk result (length self.old.places + more ≤ self.new.room) }
+        ensures places { self.new.places ≡ self.old.places }
+        ensures room { self.old.room ≤ self.new.room }
+    {
+        match self.places.len().checked_add(more) {
+            Some(count) => self.reserve(count),
+            None => Err(AllocError),
+        }
+    }
+
+    /// Makes edits, in the room that is there. It takes no memory.
+    pub(crate) fn edit(&mut self, edits: &PlaceEdits)
+        requires { length (edited edits.now self.old.places) ≤ self.old.room }
+        ensures places { self.new.places ≡ edited edits.now self.old.places }
+        ensures room { self.old.room ≤ self.new.room }
+    {
+        edits.write_into(self.places.as_mut_slice(), &mut self.spare);
+        mem::swap(&mut self.places, &mut self.spare);
+    }
+}
+
+// ---- with names of files
 
 /// Places of a world, each a file's name and a line. They take no memory.
 #[derive(Drop)]

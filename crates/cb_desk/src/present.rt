@@ -1,25 +1,27 @@
-//! The present world in memory, in the numbers of an archive.
+//! The present world in memory, in the numbers of an archive, and what is read of it. No reader
+//! takes memory.
 ghost use Rattle.std.specs.Prelude.{
   ◌≡◌,
   ◌≤◌,
   ◌+◌,
+  ◌^◌,
   ◌++◌,
   [],
-  ◌^◌,
+  MatchOption,
+  OnOk,
   length,
   map,
   take,
-  MatchOption,
-  OnOk,
 };
+ghost use Rattle.std.specs.List.Sorted.{IsStrictlyIncreasing};
+ghost use Rattle.std.specs.Option.{option_copied};
 ghost use Rattle.cb_scan.specs.Order.{in_order};
 ghost use Rattle.cb_index.specs.Files.{shown_name};
 ghost use Rattle.cb_index.specs.Names.{names_of};
 ghost use Rattle.cb_index.specs.Shelved.{CanShow, KeepsRoom};
-ghost use Rattle.std.specs.List.Sorted.{IsStrictlyIncreasing};
 ghost use Rattle.cb_desk.specs.Desk.{counted};
 ghost use Rattle.cb_desk.specs.steps.Compacted.{IsCompacted};
-ghost use Rattle.cb_desk.specs.steps.Edits.{turned_edits, edited};
+ghost use Rattle.cb_desk.specs.steps.Edits.{edited, turned_edits};
 ghost use Rattle.cb_desk.specs.steps.Plans.{HasRoomFor};
 ghost use Rattle.cb_desk.specs.steps.Records.{
   AreThere,
@@ -31,6 +33,7 @@ ghost use Rattle.cb_desk.specs.steps.Records.{
   no_numbers,
   other,
   other_wanted,
+  place_in,
   turned,
   without,
 };
@@ -40,29 +43,19 @@ ghost use Rattle.cb_desk.specs.steps.Texts.{bytes_if, bytes_if_other};
 ghost use Rattle.cb_desk.specs.steps.Walks.{IsKept};
 
 mod changes;
-mod counts;
 mod files;
 mod marked_files;
-mod marks;
-mod moved;
 mod places;
-mod readers;
-mod refusals;
-mod remaining;
-pub(crate) mod renewal;
-mod replace;
+pub(crate) mod replace;
 mod replaced;
 mod replacement;
 
 use crate::Bounds;
-use crate::new_versions::NewVersions;
-use crate::place_edits::PlaceEdits;
-use crate::place_list::PlaceList;
-use crate::plan::Plan;
-use crate::record::Record;
+use crate::edits::PlaceEdits;
+use crate::places::{PlaceList, Places};
+use crate::plan::{NewVersions, Plan, Record, with_versions};
 use cb_index::{FactKind, IndexKind, Room, Shelf, Shown};
 use cb_scan::Profile;
-use counts::with_versions;
 use std::alloc::{AllocError, Global};
 use std::marker::Model;
 use std::mem;
@@ -332,5 +325,42 @@ impl Present {
         shelf.compact();
         let _shown = shelf.shown();
         self.versions = shelf.archive().version_count() as u32;
+    }
+}
+
+// ---- readers
+
+impl Present {
+    /// The shelf that shows its files.
+    pub(crate) fn shelf(&self) -> &Shelf
+        ensures archive { result.now.archive ≡ self.now.archive }
+        ensures shown { result.now.shown ≡ self.now.now.shown }
+        ensures turns { result.now.turns ≡ self.now.turns }
+    {
+        &self.shelf
+    }
+
+    /// The wanted text.
+    pub(crate) fn wanted(&self) -> Option<&[u8]>
+        ensures { option_copied result ≡ self.now.now.wanted }
+    {
+        match &self.wanted {
+            Some(text) => Some(text.as_slice()),
+            None => None,
+        }
+    }
+
+    /// The marks, by file and line.
+    pub(crate) fn marks(&self) -> Places<'_>
+        ensures { result ≡ map (place_in self.now.archive) self.now.now.marks }
+    {
+        Places::new(self.shelf.archive(), self.marks.as_slice())
+    }
+
+    /// The frames, bottom first.
+    pub(crate) fn frames(&self) -> Places<'_>
+        ensures { result ≡ map (place_in self.now.archive) self.now.now.frames }
+    {
+        Places::new(self.shelf.archive(), self.frames.as_slice())
     }
 }

@@ -23,7 +23,7 @@ ghost use Rattle.cb_desk.specs.steps.Renamings.{
 };
 
 use crate::edits::put_places;
-use crate::spot::NumberedPlace;
+use crate::places::NumberedPlace;
 use std::alloc::{AllocError, Global};
 
 /// A file's number becomes another one. In the range from `start` to `end` the first `split` places

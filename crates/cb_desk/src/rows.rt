@@ -1,10 +1,18 @@
-//! Questions and the rows that answer them.
+//! Questions and the rows that answer them; the forms of a tags file.
 ghost use Rattle.std.specs.Prelude.{◌≡◌, ◌≤◌, ◌==◌, ◌||◌, length};
 ghost use Rattle.std.specs.List.{prefix_len};
-ghost use Rattle.cb_desk.specs.Answer.{space, tab, unindented, line_row, file_row, field_of_digit};
+ghost use Rattle.cb_desk.specs.Answer.{
+  field_of_digit,
+  file_row,
+  is_header,
+  line_row,
+  space,
+  tab,
+  unindented,
+};
 ghost use Rattle.cb_desk.specs.Models.{row_of};
 
-use cb_scan::Source;
+use cb_scan::{Source, Span};
 
 /// What is asked: the field of a question.
 #[derive(Clone, Copy, Debug, PartialEq, Eq)]
@@ -92,4 +100,36 @@ fn blanks(line: &[u8]) -> usize
     line.iter()
         .take_while(|byte| **byte == b' ' || **byte == b'\t')
         .count()
+}
+
+/// A fact as a field shows it.
+#[derive(Clone, Copy, Debug, PartialEq, Eq)]
+pub(crate) struct Found {
+    /// What the pattern is held against.
+    pub key: Span,
+    /// The name in the function column; none outside of functions and macros.
+    pub function: Option<Span>,
+    /// From 1.
+    pub line: u32,
+}
+
+/// Whether a header is the one asked for, or ends in a slash and that one.
+pub fn is_header(pattern: &[u8], header: &[u8]) -> bool
+    ensures { result ≡ is_header pattern.now header.now }
+{
+    if header.len() <= pattern.len() {
+        return header == pattern;
+    }
+    let end = &header[header.len() - pattern.len() - 1..];
+    end[0] == b'/' && &end[1..] == pattern
+}
+
+/// The form of a tags file.
+#[derive(Clone, Copy, Debug, PartialEq, Eq)]
+pub enum Format {
+    /// POSIX `ctags`: name, file and address, in the order of the tag names.
+    Plain,
+    /// tags(5): with fields for kind, line and scope, in the order of the names. A listing has
+    /// that order too.
+    Extended,
 }

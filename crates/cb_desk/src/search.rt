@@ -14,7 +14,7 @@ ghost use Rattle.std.specs.Prelude.{
 };
 ghost use Rattle.std.specs.Iterator.{YieldsFirst, item_count};
 ghost use Rattle.cb_scan.specs.Lines.{lines};
-ghost use Rattle.cb_desk.specs.declared.limits.TheConstants.{MOST_BYTES};
+ghost use Rattle.cb_desk.specs.declared.bounds.TheConstants.{MOST_BYTES};
 ghost use Rattle.cb_desk.specs.Search.{lines_with};
 ghost use Rattle.cb_desk.specs.steps.Search.{found_in, IsLineStart};
 
@@ -106,7 +106,7 @@ pub(crate) struct TextLines<'t, 'p> {
 impl<'t, 'p> Model for TextLines<'t, 'p> {
     ghost use Rattle.std.specs.Prelude.{List, ℕ, ◌≢◌, ◌≤◌, ◌+◌, [], length};
     ghost use Rattle.cb_scan.specs.Lines.{lines};
-    ghost use Rattle.cb_desk.specs.declared.limits.TheConstants.{MOST_BYTES};
+    ghost use Rattle.cb_desk.specs.declared.bounds.TheConstants.{MOST_BYTES};
     ghost use Rattle.cb_desk.specs.steps.Search.{found_in};
 
     ghost Value = { List ℕ };

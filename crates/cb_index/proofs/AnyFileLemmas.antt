@@ -7,8 +7,8 @@ use Rattle.cb_scan.specs.declared.facts.Use.{Use}
 use Rattle.cb_index.specs.Scanned.{Scanned, facts_of}
 use Rattle.cb_index.specs.Counts.{column, function_of, same_row}
 use Rattle.cb_index.specs.steps.Found.{fact_at, fact_of_call, fact_of_use}
-use Rattle.cb_index.specs.declared.kind.FactKind.{FactKind}
-use Rattle.cb_index.specs.declared.kind.FactKind.TheVariants.{Uses, Callees, Callers}
+use Rattle.cb_index.specs.declared.entry.FactKind.{FactKind}
+use Rattle.cb_index.specs.declared.entry.FactKind.TheVariants.{Uses, Callees, Callers}
 
 module _ (file other : List ℕ) (text : Scanned) where
   use_line : (u : Option Use) → (fact_of_use file text.bytes u).line ≡ (fact_of_use other text.bytes

@@ -25,7 +25,7 @@ use Rattle.cb_index.specs.steps.Given.{given_at, given_in, given_in_text}
 use Rattle.cb_index.specs.steps.Spread.{items_from}
 use Rattle.cb_index.specs.declared.entry.Entry.{Entry}
 use Rattle.cb_index.specs.declared.entry.Shown.{Shown}
-use Rattle.cb_index.specs.declared.kind.FactKind.{FactKind}
+use Rattle.cb_index.specs.declared.entry.FactKind.{FactKind}
 use Rattle.cb_index.proofs.AnyFileLemmas.{same_anywhere}
 use Rattle.cb_index.proofs.FactLemmas.{one_facts}
 use Rattle.cb_index.proofs.FirstLemmas.{at_most_one, prefix_and_key}

@@ -24,12 +24,12 @@ use Rattle.cb_index.specs.Orders.{numbered, prefixed}
 use Rattle.cb_index.specs.steps.DefSearch.{earlier_of, first_among}
 use Rattle.cb_index.specs.steps.ToCome.{GoesOn, earlier, first_of, is_asked, is_later, is_to_come}
 use Rattle.cb_index.specs.steps.ToCome.{to_come}
-use Rattle.cb_index.specs.declared.asked.Asked.{Asked}
-use Rattle.cb_index.specs.declared.asked.Asked.TheVariants.{Every}
-use Rattle.cb_index.specs.declared.def_search.DefSearch.{DefSearch}
+use Rattle.cb_index.specs.declared.entry.Asked.{Asked}
+use Rattle.cb_index.specs.declared.entry.Asked.TheVariants.{Every}
+use Rattle.cb_index.specs.declared.tags.DefSearch.{DefSearch}
 use Rattle.cb_index.specs.declared.entry.Entry.{Entry}
 use Rattle.cb_index.specs.declared.entry.Shown.{Shown}
-use Rattle.cb_index.specs.declared.kind.IndexKind.{IndexKind}
+use Rattle.cb_index.specs.declared.entry.IndexKind.{IndexKind}
 use Rattle.cb_index.proofs.EntryLemmas.{sort_exact}
 use Rattle.cb_index.proofs.InOrderLemmas.{all_filter, filter_in_order, length_in_order, same_order}
 use Rattle.cb_index.proofs.IndexLemmas.{ComesFirst, all_ordered}

@@ -35,8 +35,8 @@ use Rattle.cb_index.specs.steps.Searched.{items_with}
 use Rattle.cb_index.specs.steps.Spread.{items_from}
 use Rattle.cb_index.specs.declared.entry.Entry.{Entry}
 use Rattle.cb_index.specs.declared.entry.Shown.{Shown}
-use Rattle.cb_index.specs.declared.kind.FactKind.{FactKind}
-use Rattle.cb_index.specs.declared.kind.FactKind.TheVariants.{Uses, Callees, Callers}
+use Rattle.cb_index.specs.declared.entry.FactKind.{FactKind}
+use Rattle.cb_index.specs.declared.entry.FactKind.TheVariants.{Uses, Callees, Callers}
 use Rattle.cb_index.proofs.FirstLemmas.{firsts_give, has, prefix_and_key}
 use Rattle.cb_index.proofs.RangeItems.{range_next}
 use Rattle.cb_index.proofs.RestLemmas.{at_front, drop_next}

@@ -21,8 +21,8 @@ use Rattle.cb_index.specs.FactOrder.{ComesBefore, NamesAscend}
 use Rattle.cb_index.specs.Files.{File}
 use Rattle.cb_index.specs.Rows.{Fact, call_in, calls_in, calls_of, facts_named, file_uses_of}
 use Rattle.cb_index.specs.Rows.{use_in, uses_of}
-use Rattle.cb_index.specs.declared.kind.FactKind.{FactKind}
-use Rattle.cb_index.specs.declared.kind.FactKind.TheVariants.{Uses, Callees, Callers}
+use Rattle.cb_index.specs.declared.entry.FactKind.{FactKind}
+use Rattle.cb_index.specs.declared.entry.FactKind.TheVariants.{Uses, Callees, Callers}
 use Rattle.cb_index.proofs.IndexLemmas.{ordered-append}
 
 -- what is made of the elements that pass a test is ordered as they are

@@ -12,10 +12,10 @@ use Rattle.cb_index.specs.Kinds.{lister_of}
 use Rattle.cb_index.specs.Firsts.{firsts, listed}
 use Rattle.cb_index.specs.Items.{is_first, item_count}
 use Rattle.cb_index.specs.Orders.{def_prefix, defs_listed, numbered, tag_prefix, tags_listed}
-use Rattle.cb_index.specs.declared.kind.FactKind.{FactKind}
-use Rattle.cb_index.specs.declared.kind.FactKind.TheVariants.{Uses, Callees, Callers}
-use Rattle.cb_index.specs.declared.kind.IndexKind.{IndexKind}
-use Rattle.cb_index.specs.declared.kind.IndexKind.TheVariants.{DefsByName, DefsByTagName, Facts}
+use Rattle.cb_index.specs.declared.entry.FactKind.{FactKind}
+use Rattle.cb_index.specs.declared.entry.FactKind.TheVariants.{Uses, Callees, Callers}
+use Rattle.cb_index.specs.declared.entry.IndexKind.{IndexKind}
+use Rattle.cb_index.specs.declared.entry.IndexKind.TheVariants.{DefsByName, DefsByTagName, Facts}
 
 length-numbered : (number : ℕ) (ps : List ℕ) → length (numbered number ps) ≡ length ps
 length-numbered number [] = refl

@@ -18,7 +18,7 @@ use Rattle.cb_index.specs.Held.{entry_of}
 use Rattle.cb_index.specs.Items.{have_one_key, is_first, item_count, item_key, later}
 use Rattle.cb_index.specs.declared.entry.Entry.{Entry}
 use Rattle.cb_index.specs.declared.entry.Shown.{Shown}
-use Rattle.cb_index.specs.declared.kind.FactKind.{FactKind}
+use Rattle.cb_index.specs.declared.entry.FactKind.{FactKind}
 use Rattle.cb_index.proofs.RangeItems.{range_next}
 
 -- ---- a prefix and a key

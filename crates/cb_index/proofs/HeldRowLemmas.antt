@@ -14,7 +14,7 @@ use Rattle.cb_index.specs.Kinds.{keyer_of, lister_of}
 use Rattle.cb_index.specs.Spreads.{HoldsRowsOf}
 use Rattle.cb_index.specs.declared.entry.Entry.{Entry}
 use Rattle.cb_index.specs.declared.entry.Shown.{Shown}
-use Rattle.cb_index.specs.declared.kind.IndexKind.{IndexKind}
+use Rattle.cb_index.specs.declared.entry.IndexKind.{IndexKind}
 use Rattle.cb_index.proofs.AscendLemmas.{ascending_filter, ascending_put, others}
 use Rattle.cb_index.proofs.EntryLemmas.{sort_exact}
 use Rattle.cb_index.proofs.InOrderLemmas.{all_filter, same_order, sum_flat_put}

@@ -16,8 +16,8 @@ use Rattle.cb_index.specs.Links.{AreLaid, AreLinks, Linked, first_or_none}
 use Rattle.cb_index.specs.Links.{link_of, links_for, links_of}
 use Rattle.cb_index.specs.Orders.{numbered}
 use Rattle.cb_index.specs.declared.links.Link.{Link}
-use Rattle.cb_index.specs.declared.kind.FactKind.{FactKind}
-use Rattle.cb_index.specs.declared.kind.FactKind.TheVariants.{Uses, Callees, Callers}
+use Rattle.cb_index.specs.declared.entry.FactKind.{FactKind}
+use Rattle.cb_index.specs.declared.entry.FactKind.TheVariants.{Uses, Callees, Callers}
 
 -- ---- definitions: each has a number
 pub length_numbered : (prefixed : Def → ℕ) (n : ℕ) (ds : List Def)

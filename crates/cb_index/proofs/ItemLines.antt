@@ -15,8 +15,8 @@ use Rattle.cb_scan.proofs.LinePlaces.{line_of-rises}
 use Rattle.cb_index.specs.Items.{call_line, item_count, item_line, use_line}
 use Rattle.cb_index.specs.Repeats.{any_below, have_one_row}
 use Rattle.cb_index.specs.Scanned.{Scanned, facts_of}
-use Rattle.cb_index.specs.declared.kind.FactKind.{FactKind}
-use Rattle.cb_index.specs.declared.kind.FactKind.TheVariants.{Uses, Callees, Callers}
+use Rattle.cb_index.specs.declared.entry.FactKind.{FactKind}
+use Rattle.cb_index.specs.declared.entry.FactKind.TheVariants.{Uses, Callees, Callers}
 use Rattle.cb_index.specs.steps.Found.{fact_at, fact_of_call, fact_of_use}
 use Rattle.cb_index.proofs.CompactLemmas.{all_at}
 use Rattle.cb_index.proofs.RepeatLemmas.{one_line}

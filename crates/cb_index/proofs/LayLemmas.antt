@@ -30,10 +30,10 @@ use Rattle.cb_index.specs.Items.{have_one_key, is_first, item_count, item_key, i
 use Rattle.cb_index.specs.Links.{first_or_none, link_of, links_of}
 use Rattle.cb_index.specs.Repeats.{any_below, have_one_row, is_repeat}
 use Rattle.cb_index.specs.Scanned.{Scanned, facts_of}
-use Rattle.cb_index.specs.declared.kind.FactKind.{FactKind}
-use Rattle.cb_index.specs.declared.laid.Likeness.{Likeness}
-use Rattle.cb_index.specs.declared.laid.Likeness.TheVariants.{Key, Row}
-use Rattle.cb_index.specs.declared.laid.Mention.{Mention}
+use Rattle.cb_index.specs.declared.entry.FactKind.{FactKind}
+use Rattle.cb_index.specs.declared.links.Likeness.{Likeness}
+use Rattle.cb_index.specs.declared.links.Likeness.TheVariants.{Key, Row}
+use Rattle.cb_index.specs.declared.links.Mention.{Mention}
 use Rattle.cb_index.specs.declared.links.Link.{Link}
 use Rattle.cb_index.specs.steps.Laying.{are_alike, bytes_rank, column_of, column_rest, hash}
 use Rattle.cb_index.specs.steps.Laying.{have_one_rest}

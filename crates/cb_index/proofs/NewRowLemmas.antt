@@ -19,7 +19,7 @@ use Rattle.cb_index.specs.Rows.{Fact}
 use Rattle.cb_index.specs.steps.Counting.{fresh, has_row}
 use Rattle.cb_index.specs.steps.Found.{fact_at}
 use Rattle.cb_index.specs.steps.Spread.{items_from}
-use Rattle.cb_index.specs.declared.kind.FactKind.{FactKind}
+use Rattle.cb_index.specs.declared.entry.FactKind.{FactKind}
 use Rattle.cb_index.proofs.AnyFileLemmas.{same_anywhere}
 use Rattle.cb_index.proofs.FirstLemmas.{no_first}
 use Rattle.cb_index.proofs.RangeItems.{range_next}

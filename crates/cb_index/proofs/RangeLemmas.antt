@@ -24,8 +24,8 @@ use Rattle.cb_index.specs.Entries.{Keyer, file_key, has_key, has_key_from, key_c
 use Rattle.cb_index.specs.Entries.{sort_key}
 use Rattle.cb_index.specs.steps.Bounds.{is_ahead}
 use Rattle.cb_index.specs.declared.entry.Entry.{Entry}
-use Rattle.cb_index.specs.declared.bound.Side.{Side}
-use Rattle.cb_index.specs.declared.bound.Side.TheVariants.{Behind, Before, After}
+use Rattle.cb_index.specs.declared.order.Side.{Side}
+use Rattle.cb_index.specs.declared.order.Side.TheVariants.{Behind, Before, After}
 use Rattle.cb_index.proofs.EntryLemmas.{bytes_cmp, sort_exact}
 use Rattle.cb_index.proofs.SortedLemmas.{inserted_is, parts_sorted, some_ahead, taken_is}
 

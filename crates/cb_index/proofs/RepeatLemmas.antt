@@ -14,8 +14,8 @@ use Rattle.cb_index.specs.Bytes.{bytes_at, cut}
 use Rattle.cb_index.specs.Counts.{column, function_of, same_row}
 use Rattle.cb_index.specs.Items.{have_one_key}
 use Rattle.cb_index.specs.Repeats.{any_below, have_one_row}
-use Rattle.cb_index.specs.declared.kind.FactKind.{FactKind}
-use Rattle.cb_index.specs.declared.kind.FactKind.TheVariants.{Uses, Callees, Callers}
+use Rattle.cb_index.specs.declared.entry.FactKind.{FactKind}
+use Rattle.cb_index.specs.declared.entry.FactKind.TheVariants.{Uses, Callees, Callers}
 use Rattle.cb_index.specs.steps.Found.{fact_at, fact_of_call, fact_of_use}
 use Rattle.cb_index.specs.steps.Repeating.{function_span, scope_of}
 

@@ -10,7 +10,7 @@ use Rattle.cb_index.specs.Held.{AreRising, Listed}
 use Rattle.cb_index.specs.Items.{is_first, item_count}
 use Rattle.cb_index.specs.Orders.{def_prefix, defs_listed, firsts_in, numbered, tag_prefix}
 use Rattle.cb_index.specs.Orders.{tags_listed}
-use Rattle.cb_index.specs.declared.kind.FactKind.{FactKind}
+use Rattle.cb_index.specs.declared.entry.FactKind.{FactKind}
 use Rattle.cb_index.proofs.RangeItems.{range_next}
 
 -- ---- definitions: each has an entry

@@ -12,7 +12,7 @@ use Rattle.cb_scan.proofs.KeyOrder.{both_equal, same_bytes, same_number}
 use Rattle.cb_index.specs.Archived.{Archived, name_of}
 use Rattle.cb_index.specs.Entries.{Keyer}
 use Rattle.cb_index.specs.RowOrders.{Placer, row_cmp, row_key, row_numbers}
-use Rattle.cb_index.specs.declared.row.Row.{Row}
+use Rattle.cb_index.specs.declared.sorted.Row.{Row}
 
 module _ (keyer : Keyer) (start rank : Placer) (a : Archived) where
   pub rows_total : IsTotalOrder (row_cmp keyer start rank a)

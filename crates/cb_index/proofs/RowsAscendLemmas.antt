@@ -35,10 +35,10 @@ use Rattle.cb_index.specs.RowOrders.{row_numbers, row_order, row_under, rows_wit
 use Rattle.cb_index.specs.RowOrders.{start_of, use_start}
 use Rattle.cb_index.specs.Spreads.{RowsAscend, rows_of_key}
 use Rattle.cb_index.specs.declared.entry.Shown.{Shown}
-use Rattle.cb_index.specs.declared.kind.FactKind.TheVariants.{Uses, Callees, Callers}
-use Rattle.cb_index.specs.declared.kind.IndexKind.{IndexKind}
-use Rattle.cb_index.specs.declared.kind.IndexKind.TheVariants.{DefsByName, DefsByTagName, Facts}
-use Rattle.cb_index.specs.declared.row.Row.{Row}
+use Rattle.cb_index.specs.declared.entry.FactKind.TheVariants.{Uses, Callees, Callers}
+use Rattle.cb_index.specs.declared.entry.IndexKind.{IndexKind}
+use Rattle.cb_index.specs.declared.entry.IndexKind.TheVariants.{DefsByName, DefsByTagName, Facts}
+use Rattle.cb_index.specs.declared.sorted.Row.{Row}
 use Rattle.cb_index.proofs.IndexLemmas.{ordered-append}
 use Rattle.cb_index.proofs.RangeItems.{range_next}
 

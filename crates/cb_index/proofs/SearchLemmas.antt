@@ -19,7 +19,7 @@ use Rattle.cb_index.specs.steps.Given.{gives}
 use Rattle.cb_index.specs.steps.Searched.{items_with, searched_at, searched_count, searched_in_text}
 use Rattle.cb_index.specs.steps.Spread.{items_from}
 use Rattle.cb_index.specs.declared.entry.Shown.{Shown}
-use Rattle.cb_index.specs.declared.kind.FactKind.{FactKind}
+use Rattle.cb_index.specs.declared.entry.FactKind.{FactKind}
 use Rattle.cb_index.proofs.FactLemmas.{named_apart, one_searched}
 use Rattle.cb_index.proofs.FirstLemmas.{has, is_first_of_key, same_test}
 use Rattle.cb_index.proofs.NewRowLemmas.{rows_counted, rows_new}

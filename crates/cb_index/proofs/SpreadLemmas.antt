@@ -22,10 +22,10 @@ use Rattle.cb_index.specs.Spreads.{SpreadsBy, SpreadsInto}
 use Rattle.cb_index.specs.steps.Spread.{items_in_text, rows_at, rows_in}
 use Rattle.cb_index.specs.declared.entry.Entry.{Entry}
 use Rattle.cb_index.specs.declared.entry.Shown.{Shown}
-use Rattle.cb_index.specs.declared.kind.FactKind.{FactKind}
-use Rattle.cb_index.specs.declared.kind.FactKind.TheVariants.{Uses, Callees, Callers}
-use Rattle.cb_index.specs.declared.kind.IndexKind.{IndexKind}
-use Rattle.cb_index.specs.declared.kind.IndexKind.TheVariants.{DefsByName, DefsByTagName, Facts}
+use Rattle.cb_index.specs.declared.entry.FactKind.{FactKind}
+use Rattle.cb_index.specs.declared.entry.FactKind.TheVariants.{Uses, Callees, Callers}
+use Rattle.cb_index.specs.declared.entry.IndexKind.{IndexKind}
+use Rattle.cb_index.specs.declared.entry.IndexKind.TheVariants.{DefsByName, DefsByTagName, Facts}
 use Rattle.cb_index.proofs.FirstLemmas.{firsts_give, has, prefix_and_key}
 use Rattle.cb_index.proofs.PrefixLemmas.{IsTold, entry_told, key_decides, names_told, tags_told}
 use Rattle.cb_index.proofs.RangeItems.{range_next}

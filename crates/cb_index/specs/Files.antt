@@ -10,9 +10,9 @@ use Rattle.cb_scan.specs.Order.{AreOrdered}
 use Rattle.cb_index.specs.Archived.{Archived, name_of, text_at, text_of}
 use Rattle.cb_index.specs.Scanned.{Scanned, facts_of}
 use Rattle.cb_index.specs.declared.entry.Shown.{Shown}
-use Rattle.cb_index.specs.declared.kind.FactKind.TheVariants.{Uses, Callees, Callers}
-use Rattle.cb_index.specs.declared.kind.IndexKind.{IndexKind}
-use Rattle.cb_index.specs.declared.kind.IndexKind.TheVariants.{DefsByName, DefsByTagName, Facts}
+use Rattle.cb_index.specs.declared.entry.FactKind.TheVariants.{Uses, Callees, Callers}
+use Rattle.cb_index.specs.declared.entry.IndexKind.{IndexKind}
+use Rattle.cb_index.specs.declared.entry.IndexKind.TheVariants.{DefsByName, DefsByTagName, Facts}
 
 -- a file: its name and its bytes
 pub record File : Type 0 where

@@ -6,7 +6,7 @@ use Rattle.cb_index.specs.Counts.{row_count}
 use Rattle.cb_index.specs.Held.{Listed}
 use Rattle.cb_index.specs.Items.{is_first, item_count, item_key}
 use Rattle.cb_index.specs.Scanned.{Scanned}
-use Rattle.cb_index.specs.declared.kind.FactKind.{FactKind}
+use Rattle.cb_index.specs.declared.entry.FactKind.{FactKind}
 
 -- an item, with the prefix of its key, and how many rows it and those behind it of its key have
 abbrev pub listed : FactKind → Scanned → ℕ → Listed

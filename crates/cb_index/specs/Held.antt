@@ -6,7 +6,7 @@ use Rattle.cb_index.specs.Archived.{Archived, text_at}
 use Rattle.cb_index.specs.Scanned.{Scanned}
 use Rattle.cb_index.specs.declared.entry.Entry.{Entry}
 use Rattle.cb_index.specs.declared.entry.Shown.{Shown}
-use Rattle.cb_index.specs.declared.kind.IndexKind.{IndexKind}
+use Rattle.cb_index.specs.declared.entry.IndexKind.{IndexKind}
 
 -- the entries in order, and for how many there is room
 pub record Held : Type 0 where

@@ -10,8 +10,8 @@ use Rattle.cb_scan.specs.declared.lex.piece.Span.{Span}
 use Rattle.cb_scan.specs.TextFacts.{TextFacts}
 use Rattle.cb_index.specs.Bytes.{bytes_at}
 use Rattle.cb_index.specs.Scanned.{Scanned, facts_of}
-use Rattle.cb_index.specs.declared.kind.FactKind.{FactKind}
-use Rattle.cb_index.specs.declared.kind.FactKind.TheVariants.{Uses, Callees, Callers}
+use Rattle.cb_index.specs.declared.entry.FactKind.{FactKind}
+use Rattle.cb_index.specs.declared.entry.FactKind.TheVariants.{Uses, Callees, Callers}
 
 -- the name of a use, the called name of a call and the name that calls, if they are there
 abbrev pub use_span : TextFacts → ℕ → Option Span

@@ -5,10 +5,10 @@ use Rattle.cb_index.specs.Entries.{Keyer}
 use Rattle.cb_index.specs.Held.{Lister}
 use Rattle.cb_index.specs.Orders.{def_key, defs_listed, firsts_in, item_keyer, tag_key}
 use Rattle.cb_index.specs.Orders.{tag_key_prefix, tags_listed}
-use Rattle.cb_index.specs.declared.kind.FactKind.{FactKind}
-use Rattle.cb_index.specs.declared.kind.FactKind.TheVariants.{Uses, Callees, Callers}
-use Rattle.cb_index.specs.declared.kind.IndexKind.{IndexKind}
-use Rattle.cb_index.specs.declared.kind.IndexKind.TheVariants.{DefsByName, DefsByTagName, Facts}
+use Rattle.cb_index.specs.declared.entry.FactKind.{FactKind}
+use Rattle.cb_index.specs.declared.entry.FactKind.TheVariants.{Uses, Callees, Callers}
+use Rattle.cb_index.specs.declared.entry.IndexKind.{IndexKind}
+use Rattle.cb_index.specs.declared.entry.IndexKind.TheVariants.{DefsByName, DefsByTagName, Facts}
 
 -- the five kinds, in the order in which a shelf keeps their indexes
 abbrev pub all_kinds : List IndexKind

@@ -5,8 +5,8 @@ use Rattle.cb_index.specs.Items.{is_first, item_count, later}
 use Rattle.cb_index.specs.Repeats.{is_repeat}
 use Rattle.cb_index.specs.Scanned.{Scanned}
 use Rattle.cb_index.specs.declared.links.Link.{Link}
-use Rattle.cb_index.specs.declared.kind.FactKind.{FactKind}
-use Rattle.cb_index.specs.declared.kind.FactKind.TheVariants.{Uses, Callees, Callers}
+use Rattle.cb_index.specs.declared.entry.FactKind.{FactKind}
+use Rattle.cb_index.specs.declared.entry.FactKind.TheVariants.{Uses, Callees, Callers}
 
 -- the first of these items; 0 where there is none, which is behind no item
 abbrev pub first_or_none : List ℕ → ℕ

@@ -16,7 +16,7 @@ use Rattle.cb_index.specs.Items.{item_key}
 use Rattle.cb_index.specs.Scanned.{Scanned, facts_of}
 use Rattle.cb_index.specs.declared.entry.Entry.{Entry}
 use Rattle.cb_index.specs.declared.entry.Shown.{Shown}
-use Rattle.cb_index.specs.declared.kind.FactKind.{FactKind}
+use Rattle.cb_index.specs.declared.entry.FactKind.{FactKind}
 
 -- the name of a definition, if it is there
 abbrev pub def_span : TextFacts → ℕ → Option Span

@@ -4,7 +4,7 @@ use Rattle.cb_index.specs.Counts.{same_row}
 use Rattle.cb_index.specs.Items.{have_one_key}
 use Rattle.cb_index.specs.steps.Found.{fact_at}
 use Rattle.cb_index.specs.Scanned.{Scanned}
-use Rattle.cb_index.specs.declared.kind.FactKind.{FactKind}
+use Rattle.cb_index.specs.declared.entry.FactKind.{FactKind}
 
 -- whether one of the numbers below one passes a test
 unfoldable pub any_below : (ℕ → Bool) → ℕ → Bool

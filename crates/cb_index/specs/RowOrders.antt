@@ -15,10 +15,10 @@ use Rattle.cb_index.specs.Orders.{def_span}
 use Rattle.cb_index.specs.Scanned.{Scanned, facts_of}
 use Rattle.cb_index.specs.declared.entry.Shown.{Shown}
 use Rattle.cb_index.specs.Kinds.{keyer_of}
-use Rattle.cb_index.specs.declared.kind.FactKind.TheVariants.{Uses, Callees, Callers}
-use Rattle.cb_index.specs.declared.kind.IndexKind.{IndexKind}
-use Rattle.cb_index.specs.declared.kind.IndexKind.TheVariants.{DefsByName, DefsByTagName, Facts}
-use Rattle.cb_index.specs.declared.row.Row.{Row}
+use Rattle.cb_index.specs.declared.entry.FactKind.TheVariants.{Uses, Callees, Callers}
+use Rattle.cb_index.specs.declared.entry.IndexKind.{IndexKind}
+use Rattle.cb_index.specs.declared.entry.IndexKind.TheVariants.{DefsByName, DefsByTagName, Facts}
+use Rattle.cb_index.specs.declared.sorted.Row.{Row}
 
 -- what an order reads of a fact beside its key: from the text of its version (if it is there) and
 -- its number, where it begins, or the rank of its kind

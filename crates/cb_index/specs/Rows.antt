@@ -18,8 +18,8 @@ use Rattle.cb_tags.specs.TagLines.{Tag, TagScope}
 use Rattle.cb_tags.specs.TagNames.{tag_name}
 use Rattle.cb_index.specs.Bytes.{place_at}
 use Rattle.cb_index.specs.Files.{File}
-use Rattle.cb_index.specs.declared.kind.FactKind.{FactKind}
-use Rattle.cb_index.specs.declared.kind.FactKind.TheVariants.{Uses, Callees, Callers}
+use Rattle.cb_index.specs.declared.entry.FactKind.{FactKind}
+use Rattle.cb_index.specs.declared.entry.FactKind.TheVariants.{Uses, Callees, Callers}
 
 -- a use or a call: the name of its file, its own name, the name around it, where each of the two
 -- begins in the text of the file, its line, from 1, and the text of that line

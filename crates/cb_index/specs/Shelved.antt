@@ -14,10 +14,10 @@ use Rattle.cb_index.specs.Held.{Indexed, Lister, all_entries}
 use Rattle.cb_index.specs.Kinds.{all_kinds, keyer_of, lister_of}
 use Rattle.cb_index.specs.declared.entry.Entry.{Entry}
 use Rattle.cb_index.specs.declared.entry.Shown.{Shown}
-use Rattle.cb_index.specs.declared.kind.FactKind.TheVariants.{Uses, Callees, Callers}
-use Rattle.cb_index.specs.declared.kind.IndexKind.{IndexKind}
-use Rattle.cb_index.specs.declared.kind.IndexKind.TheVariants.{DefsByName, DefsByTagName, Facts}
-use Rattle.cb_index.specs.declared.room.Room.{Room}
+use Rattle.cb_index.specs.declared.entry.FactKind.TheVariants.{Uses, Callees, Callers}
+use Rattle.cb_index.specs.declared.entry.IndexKind.{IndexKind}
+use Rattle.cb_index.specs.declared.entry.IndexKind.TheVariants.{DefsByName, DefsByTagName, Facts}
+use Rattle.cb_index.specs.declared.shelf.Room.{Room}
 use Rattle.cb_index.specs.declared.totals.Totals.{Totals}
 
 -- the archive, what is shown of it, by file name, how often it changed, and for how many entries,

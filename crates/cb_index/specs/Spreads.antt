@@ -13,9 +13,9 @@ use Rattle.cb_index.specs.Shelved.{IsIndexOf}
 use Rattle.cb_index.specs.steps.Spread.{rows_in}
 use Rattle.cb_index.specs.declared.entry.Entry.{Entry}
 use Rattle.cb_index.specs.declared.entry.Shown.{Shown}
-use Rattle.cb_index.specs.declared.kind.FactKind.{FactKind}
-use Rattle.cb_index.specs.declared.kind.IndexKind.{IndexKind}
-use Rattle.cb_index.specs.declared.row.Row.{Row}
+use Rattle.cb_index.specs.declared.entry.FactKind.{FactKind}
+use Rattle.cb_index.specs.declared.entry.IndexKind.{IndexKind}
+use Rattle.cb_index.specs.declared.sorted.Row.{Row}
 
 -- the entries of an index that have a key, spread out, are the rows of the files that have it, by
 -- file name and then by item

@@ -1,4 +1,5 @@
-//! The names and versions that indexes speak of.
+//! What is kept: names, and versions with what is found in them, each under a number; and the
+//! bytes of these that spans name, with their order.
 ghost use Rattle.std.specs.Prelude.{
   ◌≡◌,
   ◌<◌,
@@ -8,34 +9,147 @@ ghost use Rattle.std.specs.Prelude.{
   ◌++◌,
   ◌∷◌,
   [],
+  IfErr,
+  IfOk,
+  IfSome,
+  OnErr,
+  OnOk,
   length,
   map,
-  take,
-  IfErr,
-  IfSome,
-  IfOk,
-  OnOk,
-  OnErr,
   slice_index_or,
+  take,
 };
+ghost use Rattle.std.specs.Cmp.Lexicographic.{slice_cmp};
+ghost use Rattle.std.specs.List.{All, AllByRecursion, swap_remove};
 ghost use Rattle.std.specs.Option.{option_copied};
-ghost use Rattle.std.specs.List.{AllByRecursion, swap_remove};
+ghost use Rattle.std.specs.Ordering.{nat_cmp};
 ghost use Rattle.cb_scan.specs.Profiles.{facts_in};
 ghost use Rattle.cb_index.specs.Archived.{AreBytes, name_of, text_at, text_of};
+ghost use Rattle.cb_index.specs.Bytes.{bytes_at, cut, place_at};
 ghost use Rattle.cb_index.specs.Links.{link_of, nothing_laid};
 ghost use Rattle.cb_index.specs.Scanned.{facts_of};
 
-use crate::bytes::read_bytes;
-use crate::entry::Shown;
-use crate::kind::FactKind;
-use crate::laid::Mention;
-use crate::links::{Link, Links};
-use crate::memory::OutOfMemory;
-use crate::place::Place;
-use crate::scanned::ScannedSource;
-use cb_scan::{Facts, Profile, Source};
+use crate::blocks::Place;
+use crate::entry::{FactKind, Shown};
+use crate::links::{Link, Links, Mention};
+use cb_scan::{Facts, Profile, Source, Span, key_prefix};
 use std::alloc::Global;
+use std::cmp::Ordering;
 use std::marker::Model;
+
+/// A growth was refused.
+#[derive(Clone, Copy, Debug, PartialEq, Eq)]
+pub struct OutOfMemory;
+
+/// The bytes of a span, cut at the end of the text.
+pub(crate) fn cut(text: &[u8], span: Span) -> &[u8]
+    ensures { result.now ≡ cut text.now span }
+{
+    let end = (span.end as usize).min(text.len());
+    let start = (span.start as usize).min(end);
+    &text[start..end]
+}
+
+/// The bytes of a span; none where there is no span.
+pub(crate) fn bytes_at(text: &[u8], span: Option<Span>) -> &[u8]
+    ensures { result.now ≡ bytes_at text.now span }
+{
+    match span {
+        Some(span) => cut(text, span),
+        None => &[],
+    }
+}
+
+/// Where a span begins; nowhere where there is no span.
+pub(crate) fn place_at(span: Option<Span>) -> Option<u32>
+    ensures { result ≡ place_at span }
+{
+    match span {
+        Some(span) => Some(span.start),
+        None => None,
+    }
+}
+
+/// Says that the elements of a text are bytes. It does nothing.
+pub(crate) fn read_bytes(text: &[u8])
+    ensures { All (λ b. b < 256) text.now }
+{
+    for byte in text {
+        let _byte = *byte;
+    }
+}
+
+/// The order of two keys by their bytes, eight of them at a time where both have as many.
+pub(crate) fn compare_by_words(a: &[u8], b: &[u8]) -> Ordering
+    ensures { result ≡ slice_cmp nat_cmp a.now b.now }
+{
+    let mut left = a;
+    let mut right = b;
+    'words: while left.len() >= 8 && right.len() >= 8 {
+        read_bytes(left);
+        read_bytes(right);
+        let (one, other) = (key_prefix(left), key_prefix(right));
+        if one != other {
+            return one.cmp(&other);
+        }
+        left = &left[8..];
+        right = &right[8..];
+    }
+    left.cmp(right)
+}
+
+/// A source with what its profile finds in it. Its value is the profile and the text.
+#[derive(Debug, Drop)]
+pub(crate) struct ScannedSource {
+    profile: Profile,
+    source: Source,
+    facts: Facts,
+}
+
+impl Model for ScannedSource {
+    ghost use Rattle.std.specs.Prelude.{◌≡◌};
+    ghost use Rattle.cb_scan.specs.Profiles.{facts_in};
+    ghost use Rattle.cb_index.specs.Scanned.{Scanned};
+
+    ghost Value = { Scanned };
+
+    ghost view = { λ s. record { profile = s.profile; bytes = s.source } };
+
+    ghost invariant = { λ s. s.facts ≡ facts_in s.profile s.source };
+}
+
+impl ScannedSource {
+    pub(crate) fn new(profile: Profile, source: Source, facts: Facts) -> ScannedSource
+        requires { facts ≡ facts_in profile source }
+        ensures profile { result.profile ≡ profile }
+        ensures bytes { result.bytes ≡ source }
+    {
+        ScannedSource {
+            profile,
+            source,
+            facts,
+        }
+    }
+
+    pub(crate) fn profile(&self) -> Profile
+        ensures { result ≡ self.now.profile }
+    {
+        self.profile
+    }
+
+    pub(crate) fn source(&self) -> &Source
+        ensures { result.now ≡ self.now.bytes }
+    {
+        &self.source
+    }
+
+    /// What is found in it.
+    pub(crate) fn facts(&self) -> &Facts
+        ensures { result.now ≡ facts_of self.now }
+    {
+        &self.facts
+    }
+}
 
 /// A source with what its profile finds in it, and links between facts of one key. Its value is the
 /// profile and the text: whether links are laid is only a matter of time.

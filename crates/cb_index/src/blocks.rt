@@ -1,4 +1,4 @@
-//! What is kept in blocks.
+//! What is kept in blocks, and places in them, found by binary search.
 ghost use Rattle.std.specs.Prelude.{
   ◌≡◌,
   ◌<◌,
@@ -8,25 +8,219 @@ ghost use Rattle.std.specs.Prelude.{
   ◌++◌,
   ◌∷◌,
   [],
-  suc,
-  true,
+  IfOk,
+  OnOk,
+  drop,
   false,
   length,
-  take,
-  drop,
   slice_index_or,
+  suc,
+  take,
+  true,
   vec_capacity,
-  OnOk,
 };
 ghost use Rattle.std.specs.List.{AllByRecursion, insert};
-ghost use Rattle.cb_index.specs.Blocks.{IsFilled, IsPlace, before, joined};
-ghost use Rattle.cb_index.specs.declared.block.TheConstants.{HALF, SIZE};
+ghost use Rattle.std.specs.List.Sorted.{IsPartitionPoint, IsPartitionedBy};
+ghost use Rattle.cb_index.specs.Blocks.{AreParted, IsFilled, IsPlace, before, head_is, joined};
+ghost use Rattle.cb_index.specs.declared.blocks.TheConstants.{HALF, SIZE};
 
-use crate::block::Block;
-use crate::memory::OutOfMemory;
-use crate::place::Place;
+use crate::archive::OutOfMemory;
 use std::alloc::Global;
 use std::marker::Model;
+
+// ---- a block
+
+/// The most elements of a block. Room that nothing is put into costs a page of memory a block, so
+/// blocks are large; what follows an element moves when it comes or goes, so they are not larger.
+const SIZE: usize = 4096;
+
+/// So many elements stay in a full block that is split.
+pub(crate) const HALF: usize = 2048;
+
+/// Up to `SIZE` elements, in room that is made once.
+#[derive(Drop)]
+pub(crate) struct Block<T> {
+    items: Vec<T>,
+}
+
+impl<T> Model for Block<T> {
+    ghost use Rattle.std.specs.Prelude.{List, length, vec_capacity, ◌≤◌};
+    ghost use Rattle.cb_index.specs.declared.blocks.TheConstants.{SIZE};
+
+    ghost Value = { List T };
+
+    ghost view = { λ b. b.items.items };
+
+    ghost invariant = { λ b. (SIZE ≤ vec_capacity b.items) × (length b.items.items ≤ SIZE) };
+}
+
+impl<T: Copy> Block<T> {
+    /// A block without elements.
+    pub(crate) fn new(alloc: Global) -> Result<Block<T>, OutOfMemory>
+        ensures { IfOk result (λ block. block ≡ []) }
+    {
+        let mut items = Vec::new(alloc);
+        match items.reserve(SIZE) {
+            Ok(()) => Ok(Block { items }),
+            Err(_) => Err(OutOfMemory),
+        }
+    }
+
+    /// The elements.
+    pub(crate) fn items(&self) -> &[T]
+        ensures value { result.now ≡ self.now }
+        ensures few { length self.now ≤ SIZE }
+    {
+        self.items.as_slice()
+    }
+
+    /// Whether there is no room for another element.
+    pub(crate) fn is_full(&self) -> bool
+        ensures full { result ≡ true → length self.now ≡ SIZE }
+        ensures free { result ≡ false → length self.now < SIZE }
+    {
+        self.items.len() >= SIZE
+    }
+
+    /// Puts an element at a place.
+    pub(crate) fn insert(&mut self, at: usize, one: T)
+        requires place { at ≤ length self.old }
+        requires room { length self.old < SIZE }
+        ensures { self.new ≡ take at self.old ++ one ∷ drop at self.old }
+    {
+        if self.items.insert(at, one).is_err() {
+            unreachable!()
+        }
+    }
+
+    /// Takes away the element at a place.
+    pub(crate) fn remove(&mut self, at: usize)
+        requires { at < length self.old }
+        ensures { self.new ≡ take at self.old ++ drop (suc at) self.old }
+    {
+        self.items.remove(at);
+    }
+
+    /// Keeps these elements alone.
+    pub(crate) fn fill(&mut self, items: &[T])
+        requires { length items.now ≤ SIZE }
+        ensures { self.new ≡ items.now }
+    {
+        self.items.truncate(0);
+        if self.items.extend_from_slice(items).is_err() {
+            unreachable!()
+        }
+    }
+
+    /// Moves the upper half to another block, which keeps nothing else.
+    fn split(&mut self, upper: &mut Block<T>)
+        requires { length self.old ≡ SIZE }
+        ensures lower { self.new ≡ take HALF self.old }
+        ensures upper { upper.new ≡ drop HALF self.old }
+        ensures lower_count { length self.new ≡ HALF }
+        ensures upper_count { length upper.new ≡ HALF }
+    {
+        upper.fill(self.items.as_slice().split_at(HALF).1);
+        self.items.truncate(HALF);
+    }
+
+    /// Puts an element at a place of a full block, whose upper half moves to another one.
+    pub(crate) fn insert_split(&mut self, at: usize, one: T, upper: &mut Block<T>)
+        requires place { at ≤ length self.old }
+        requires full { length self.old ≡ SIZE }
+        ensures both { self.new ++ upper.new ≡ take at self.old ++ one ∷ drop at self.old }
+        ensures lower { 0 < length self.new }
+        ensures upper { 0 < length upper.new }
+    {
+        self.split(upper);
+        if at <= HALF {
+            self.insert(at, one);
+        } else {
+            upper.insert(at - HALF, one);
+        }
+    }
+}
+
+// ---- places
+
+/// What parts elements that are in order into those ahead of it and those behind it.
+pub(crate) trait Bound<T> {
+    ghost use Rattle.std.specs.Prelude.{Bool};
+
+    ghost is_ahead: { Self → T → Bool };
+
+    /// Whether an element stands ahead of it.
+    fn is_ahead(&self, one: T) -> bool
+        ensures { result ≡ is_ahead self.now one };
+}
+
+/// A place in a block.
+#[derive(Clone, Copy, Debug)]
+pub(crate) struct Place {
+    pub(crate) block: usize,
+    pub(crate) at: usize,
+}
+
+/// How many elements stand ahead of a bound.
+pub(crate) fn count_ahead<T: Copy, B: Bound<T>>(bound: &B, items: &[T]) -> usize
+    requires { IsPartitionedBy (B.is_ahead bound.now) items.now }
+    ensures bound { result ≤ length items.now }
+    ensures parted { IsPartitionPoint (λ e. B.is_ahead bound.now e ≡ true)
+        (λ e. B.is_ahead bound.now e ≡ false) items.now result }
+{
+    items.partition_point(
+        |e: &T| -> bool
+            ensures { result ≡ B.is_ahead bound.entry.now e.now }
+        { bound.is_ahead(*e) },
+    )
+}
+
+/// Whether the first element of a block stands ahead of a bound.
+#[tactic(auto, unfolding(crate::specs::Blocks::head_is))]
+fn begins_ahead<T: Copy, B: Bound<T>>(bound: &B, block: &Block<T>) -> bool
+    ensures { result ≡ head_is (B.is_ahead bound.now) block.now }
+{
+    match block.items().first() {
+        Some(one) => bound.is_ahead(*one),
+        None => false,
+    }
+}
+
+/// How many blocks begin ahead of a bound.
+fn count_begun<T: Copy, B: Bound<T>>(bound: &B, blocks: &[Block<T>]) -> usize
+    requires { IsPartitionedBy (head_is (B.is_ahead bound.now)) blocks.now }
+    ensures bound { result ≤ length blocks.now }
+    ensures parted { IsPartitionPoint (λ b. head_is (B.is_ahead bound.now) b ≡ true)
+        (λ b. head_is (B.is_ahead bound.now) b ≡ false) blocks.now result }
+{
+    blocks.partition_point(
+        |b: &Block<T>| -> bool
+            ensures { result ≡ head_is (B.is_ahead bound.entry.now) b.now }
+        { begins_ahead(bound, b) },
+    )
+}
+
+/// The place of a bound in blocks: in the last one that begins ahead of it, else at the start.
+pub(crate) fn place_of<T: Copy, B: Bound<T>>(bound: &B, blocks: &[Block<T>]) -> Place
+    requires parted { AreParted (B.is_ahead bound.now) (joined blocks.now) }
+    requires filled { AllByRecursion IsFilled blocks.now }
+    ensures place { IsPlace blocks.now result.block result.at }
+    ensures ahead { AllByRecursion (λ e. B.is_ahead bound.now e ≡ true)
+        (take (before blocks.now result.block result.at) (joined blocks.now)) }
+    ensures behind { AllByRecursion (λ e. B.is_ahead bound.now e ≡ false)
+        (drop (before blocks.now result.block result.at) (joined blocks.now)) }
+    ensures start { result.at ≡ 0 → result.block ≡ 0 }
+{
+    let begun = count_begun(bound, blocks);
+    if begun == 0 {
+        return Place { block: 0, at: 0 };
+    }
+    let block = begun - 1;
+    let at = count_ahead(bound, blocks[block].items());
+    Place { block, at }
+}
+
+// ---- all blocks
 
 /// So many elements come into a block where all are put anew. Some room is left for more.
 const FILL: usize = 3072;

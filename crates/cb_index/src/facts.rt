@@ -27,14 +27,11 @@ ghost use Rattle.cb_index.specs.steps.ShownIn.{shown_in};
 ghost use Rattle.cb_index.specs.declared.entry.Entry.{Entry};
 
 use crate::archive::{Archive, Version};
-use crate::counts::row_count;
-use crate::entry::{Entry, Shown};
-use crate::items::{Chain, item_count, item_key};
-use crate::kind::FactKind;
+use crate::entry::{Entry, FactKind, Shown};
+use crate::items::{Chain, item_count, item_key, row_count};
 use crate::repeats::take_given;
 use crate::rows::{FactRow, FactSpot, fact_at};
-use crate::run::Run;
-use crate::shown_files::ShownFiles;
+use crate::run::{Run, ShownFiles};
 
 /// The facts of one key in one version that are still to come.
 #[derive(Clone, Copy)]

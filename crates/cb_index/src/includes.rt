@@ -1,4 +1,4 @@
-//! Includes, one after another.
+//! The files that are shown, one after another, and their includes.
 ghost use Rattle.std.specs.Prelude.{◌≡◌, ◌++◌, ◌∷◌, [], MatchOption};
 ghost use Rattle.std.specs.Iterator.{YieldsFirstBy, item_count};
 ghost use Rattle.cb_index.specs.Includes.{all_includes};
@@ -10,13 +10,39 @@ ghost use Rattle.cb_index.specs.steps.Includes.{
   includes_in,
   includes_left,
 };
-ghost use Rattle.cb_index.specs.steps.Left.{entries_left, fact_of};
+ghost use Rattle.cb_index.specs.steps.Left.{entries_left, fact_of, shown_file};
 
-use crate::bytes::{bytes_at, place_at};
-use crate::entries::Entries;
+use crate::archive::{Archive, bytes_at, place_at};
 use crate::rows::FactRow;
+use crate::run::ShownFiles;
 use crate::shelf::Shelf;
-use cb_scan::{Include, Source};
+use cb_scan::{Facts, Include, Source};
+
+/// Files with what is found in them. They take no memory.
+#[derive(Clone, Copy)]
+pub struct Entries<'a> {
+    pub(crate) archive: &'a Archive,
+    pub(crate) shown: ShownFiles<'a>,
+}
+
+impl<'a> Iterator for Entries<'a> {
+    type Item = (&'a [u8], &'a Source, &'a Facts);
+
+    ghost next_gives = { YieldsFirstBy shown_file entries_left };
+
+    ghost remaining = { item_count entries_left };
+
+    fn next(&mut self) -> Option<(&'a [u8], &'a Source, &'a Facts)> {
+        let (shown, rest) = self.shown.split_first()?;
+        let version = self.archive.version(shown.version)?;
+        self.shown = rest;
+        Some((
+            self.archive.name(shown.name),
+            version.source(),
+            version.facts(),
+        ))
+    }
+}
 
 /// A file, and its includes that are still to come.
 #[derive(Clone, Copy)]

@@ -1,6 +1,8 @@
 //! Uses and calls by their keys. An item is the number of a use among the uses of a version, or of
-//! a call among its calls, from 0.
-ghost use Rattle.std.specs.Prelude.{◌≡◌, ◌<◌, ◌^◌, ◌∷◌, [], MatchOption};
+//! a call among its calls, from 0. Facts of one key on one line that have the same name in the
+//! function column have one row.
+ghost use Rattle.std.specs.Prelude.{◌≡◌, ◌<◌, ◌^◌, ◌∷◌, [], MatchOption, true};
+ghost use Rattle.cb_index.specs.Counts.{row_count};
 ghost use Rattle.cb_index.specs.Items.{
   have_one_key,
   is_first,
@@ -13,10 +15,9 @@ ghost use Rattle.cb_index.specs.Items.{
 ghost use Rattle.cb_index.specs.steps.Chains.{chain_left};
 ghost use Rattle.cb_index.specs.steps.Spread.{items_from};
 
-use crate::archive::Version;
-use crate::bytes::bytes_at;
-use crate::kind::FactKind;
-use crate::scanned::ScannedSource;
+use crate::archive::{ScannedSource, Version, bytes_at};
+use crate::entry::FactKind;
+use crate::repeats::is_repeat;
 use cb_scan::{Facts, Span};
 
 /// How many items a text has.
@@ -128,7 +129,7 @@ pub(crate) fn is_first(sort: FactKind, version: &Version, item: u32) -> bool
 }
 
 /// The next item that has the key of an item.
-pub(crate) fn next_of_key(sort: FactKind, version: &Version, item: u32) -> Option<u32>
+fn next_of_key(sort: FactKind, version: &Version, item: u32) -> Option<u32>
     ensures { MatchOption result (later sort version.now item ≡ [])
         (λ next. later sort version.now item ≡ next ∷ later sort version.now next) }
 {
@@ -191,4 +192,21 @@ impl<'a> Chain<'a> {
     {
         self.version
     }
+}
+
+/// How many rows the first item of a key and the later ones that have its key have together: as
+/// many as are no repeats.
+pub(crate) fn row_count(sort: FactKind, version: &Version, item: u32) -> u32
+    requires { is_first sort version.now item ≡ true }
+    ensures { result ≡ row_count sort version.now item }
+{
+    let _count = item_count(sort, version);
+    let mut items = Chain::from(sort, version, item);
+    let mut count = 0;
+    while let Some(next) = items.take() {
+        if !is_repeat(sort, version, next) {
+            count += 1;
+        }
+    }
+    count
 }

@@ -16,11 +16,11 @@ ghost use Rattle.cb_index.specs.RowOrders.{row_key, row_order};
 ghost use Rattle.cb_index.specs.Rows.{facts_named};
 ghost use Rattle.cb_index.specs.Spreads.{RowsAscend, SpreadsInto};
 ghost use Rattle.cb_index.specs.declared.entry.Entry.{Entry};
-ghost use Rattle.cb_index.specs.declared.kind.FactKind.{FactKind};
-ghost use Rattle.cb_index.specs.declared.kind.IndexKind.{IndexKind};
-ghost use Rattle.cb_index.specs.declared.row.Row.{Row};
+ghost use Rattle.cb_index.specs.declared.entry.FactKind.{FactKind};
+ghost use Rattle.cb_index.specs.declared.entry.IndexKind.{IndexKind};
+ghost use Rattle.cb_index.specs.declared.sorted.Row.{Row};
 
-use crate::row::RowOrder;
+use crate::sorted::RowOrder;
 
 /// Every order is total, in every archive.
 pub fn orders_are_total()

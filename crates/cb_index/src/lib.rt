@@ -6,75 +6,56 @@
 //! uses the contracts of [`Shelf`]: its readers give exactly the facts of the files that are shown.
 #![tactic(auto)]
 
-// What is kept: names and versions, each under a number.
+// What is kept: names and versions, each under a number, with what is found in them.
 mod archive;
-mod bytes;
-mod room;
-mod scanned;
 
-// What is shown of it, with how many facts, and what it lends row by row.
-mod entries;
-mod facts;
-mod includes;
-mod listed;
-mod names;
-mod rows;
+// What is shown of it: the shelf with its five indexes, the list of what it shows, and how many
+// facts that has.
 mod shelf;
-mod shown_files;
-mod shown_list;
-mod tags;
+mod shown;
 mod totals;
 
-// An index of one kind: its entries in order, the versions that are pending, and the search that
-// answers until they are in order.
-mod asked;
-mod bound;
-mod def_search;
+// What a shelf lends row by row: files and their includes, tags of definitions, uses and calls; and
+// the rows themselves.
+mod facts;
+mod includes;
+mod rows;
+mod tags;
+
+// An index: what it keeps and of which kind, the keys and the order of that, its entries in order
+// with the versions that are pending, and the sort that puts these in.
 mod entry;
 mod index;
-mod kind;
 mod order;
-mod orders;
-mod postings;
 mod sort;
 
-// Entries kept in blocks, and places in them.
-mod block;
+// What is kept in blocks with places in them; what is lent of these: the elements between two
+// places, and the files that are shown.
 mod blocks;
-mod place;
 mod run;
 
-// The uses and calls of one key in a version, and those whose rows are equal.
-mod counts;
+// The uses and calls of one key in a version, the links between them, and those whose rows are
+// equal.
 mod items;
-mod laid;
 mod links;
 mod repeats;
 
 // An index of rows for its own sake, and the laws of the orders.
 pub mod laws;
-mod range;
-mod row;
 mod sorted;
 
-// The answer where memory is refused.
-mod memory;
-
-pub use archive::{Archive, Version};
-pub use entries::Entries;
-pub use entry::{Entry, Shown};
+pub use archive::{Archive, OutOfMemory, Version};
+pub use entry::{Entry, FactKind, IndexKind, Shown};
 pub use facts::{FactRows, FactSpots};
-pub use includes::IncludeRows;
-pub use kind::{FactKind, IndexKind};
+pub use includes::{Entries, IncludeRows};
 pub use links::Links;
-pub use memory::OutOfMemory;
-pub use names::are_rising;
-pub use range::Rows;
-pub use room::Room;
-pub use row::{CallsByCallee, CallsByCaller, DefsByName, DefsByTagName, Row, RowOrder, UsesByName};
 pub use rows::{FactRow, FactSpot, TagSpot};
-pub use shelf::Shelf;
-pub use shown_files::ShownFiles;
-pub use sorted::Sorted;
+pub use run::ShownFiles;
+pub use shelf::{Room, Shelf};
+pub use shown::are_rising;
+pub use sorted::{
+    CallsByCallee, CallsByCaller, DefsByName, DefsByTagName, Row, RowOrder, Rows, Sorted,
+    UsesByName,
+};
 pub use tags::TagRows;
-pub use totals::{Totals, totals_of};
+pub use totals::Totals;

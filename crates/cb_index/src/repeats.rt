@@ -8,12 +8,10 @@ ghost use Rattle.cb_index.specs.steps.Given.{given_left};
 ghost use Rattle.cb_index.specs.steps.Left.{fact_of_spot};
 ghost use Rattle.cb_index.specs.steps.Repeating.{function_span};
 
-use crate::archive::Version;
-use crate::bytes::bytes_at;
+use crate::archive::{ScannedSource, Version, bytes_at};
+use crate::entry::FactKind;
 use crate::items::{Chain, item_line, item_span};
-use crate::kind::FactKind;
 use crate::rows::{FactSpot, fact_in};
-use crate::scanned::ScannedSource;
 use cb_scan::{Facts, Span};
 
 /// The name in the function column.

@@ -13,12 +13,9 @@ ghost use Rattle.cb_index.specs.steps.Found.{
 };
 ghost use Rattle.cb_index.specs.steps.Left.{fact_of, fact_of_spot, tag_of_spot};
 
-use crate::archive::{Archive, Version};
-use crate::bytes::{bytes_at, cut, place_at};
-use crate::entry::Entry;
-use crate::kind::FactKind;
-use crate::orders::name_in;
-use crate::scanned::ScannedSource;
+use crate::archive::{Archive, ScannedSource, Version, bytes_at, cut, place_at};
+use crate::entry::{Entry, FactKind};
+use crate::order::name_in;
 use cb_scan::{Call, Def, Kind, Source, Tag, Use};
 use cb_tags::{Scope, TagRow};
 

@@ -1,40 +1,41 @@
 //! Versions that are shown under file names, and what is found in them.
 ghost use Rattle.std.specs.Prelude.{
   ◌≡◌,
+  ◌<◌,
+  ◌≤◌,
   ◌+◌,
   ◌-◌,
   ◌*◌,
   ◌^◌,
-  ◌≤◌,
-  ◌<◌,
   ◌++◌,
   ◌∷◌,
-  ℕ,
   [],
-  true,
-  false,
-  min,
-  not,
-  nat_eq,
-  length,
-  map,
-  filter,
-  take,
-  drop,
-  vec_capacity,
+  ℕ,
   MatchOption,
   OnOk,
+  drop,
+  false,
+  filter,
+  length,
+  map,
+  min,
+  nat_eq,
+  not,
+  take,
+  true,
+  vec_capacity,
 };
+ghost use Rattle.std.specs.Cmp.Lexicographic.{slice_cmp};
 ghost use Rattle.std.specs.List.{AllByRecursion, list_any, swap_remove};
 ghost use Rattle.std.specs.List.Sorted.{IsStrictlyIncreasing};
-ghost use Rattle.std.specs.Cmp.Lexicographic.{slice_cmp};
 ghost use Rattle.std.specs.Ordering.{is_gt, nat_cmp};
 ghost use Rattle.std.specs.Str.{bytes_eq};
 ghost use Rattle.cb_scan.specs.Order.{goes_first, in_order, put};
 ghost use Rattle.cb_index.specs.Archived.{AreBytes, name_of};
-ghost use Rattle.cb_index.specs.Counts.{rows_in_files, unlike_in_files};
 ghost use Rattle.cb_index.specs.Compact.{ShowsAll, ShowsSame, shows_version};
+ghost use Rattle.cb_index.specs.Counts.{rows_in_files, unlike_in_files};
 ghost use Rattle.cb_index.specs.Files.{AreAscending, IsThere, shown_name};
+ghost use Rattle.cb_index.specs.Kinds.{def_kind};
 ghost use Rattle.cb_index.specs.Names.{is_among, names_of};
 ghost use Rattle.cb_index.specs.Rows.{
   calls_in,
@@ -58,33 +59,43 @@ ghost use Rattle.cb_index.specs.Shelved.{
   with_facts,
 };
 ghost use Rattle.cb_index.specs.declared.entry.Shown.{Shown};
-ghost use Rattle.cb_index.specs.Kinds.{def_kind};
 ghost use Rattle.cb_index.specs.steps.Compact.{IsAmong, renumbered};
-ghost use Rattle.cb_index.specs.steps.ToCome.{asked_tags};
-ghost use Rattle.cb_index.specs.steps.Left.{entries_left, facts_counted, facts_left, facts_new};
-ghost use Rattle.cb_index.specs.steps.Left.{tags_left};
+ghost use Rattle.cb_index.specs.steps.Left.{
+  entries_left,
+  facts_counted,
+  facts_left,
+  facts_new,
+  tags_left,
+};
 ghost use Rattle.cb_index.specs.steps.ShownIn.{shown_in};
+ghost use Rattle.cb_index.specs.steps.ToCome.{asked_tags};
 
-use crate::archive::{Archive, Version};
-use crate::asked::Asked;
-use crate::bytes::read_bytes;
-use crate::def_search::{DefSearch, def_kind};
-use crate::entries::Entries;
-use crate::entry::Shown;
+use crate::archive::{Archive, OutOfMemory, Version, read_bytes};
+use crate::entry::{Asked, FactKind, IndexKind, Shown};
 use crate::facts::{FactRows, are_few};
+use crate::includes::Entries;
 use crate::index::{Index, put_in_each, reserve_each, take_from_each, take_names_from_each};
-use crate::kind::{FactKind, IndexKind};
-use crate::laid::Mention;
-use crate::listed::{are_there, ascend, has_any_name};
-use crate::memory::OutOfMemory;
-use crate::room::Room;
-use crate::shown_files::ShownFiles;
-use crate::shown_list::ShownList;
-use crate::tags::{Defs, TagRows};
+use crate::links::Mention;
+use crate::run::ShownFiles;
+use crate::shown::{ShownList, are_there, ascend, has_any_name};
+use crate::tags::{DefSearch, Defs, TagRows, def_kind};
 use crate::totals::{Totals, totals_of};
 use cb_scan::Profile;
 use std::alloc::Global;
 use std::marker::Model;
+
+/// So many of each in all.
+#[derive(Clone, Copy, Debug, PartialEq, Eq)]
+pub struct Room {
+    pub versions: u32,
+    pub names: u32,
+    /// Versions that are shown at once.
+    pub entries: u32,
+    /// The definitions, uses and calls of those.
+    pub defs: u64,
+    pub uses: u64,
+    pub calls: u64,
+}
 
 /// Files are hidden one after another where they are at most this part of what is shown.
 const FEW: usize = 8;

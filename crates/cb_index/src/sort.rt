@@ -23,12 +23,9 @@ ghost use Rattle.cb_index.specs.Kinds.{keyer_of};
 ghost use Rattle.cb_index.specs.steps.Quick.{IsBoundary, IsDeep, prefix_of, with_prefix};
 ghost use Rattle.cb_index.specs.declared.entry.Entry.{Entry};
 
-use crate::archive::Archive;
-use crate::bytes::read_bytes;
-use crate::entry::Entry;
-use crate::kind::IndexKind;
-use crate::order::compare;
-use crate::orders::plain_key;
+use crate::archive::{Archive, read_bytes};
+use crate::entry::{Entry, IndexKind};
+use crate::order::{compare, plain_key};
 use cb_scan::key_prefix;
 use std::cmp::Ordering;
 

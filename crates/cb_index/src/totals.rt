@@ -6,9 +6,8 @@ ghost use Rattle.cb_index.specs.Shelved.{AreTotals, AreTooMany};
 ghost use Rattle.cb_index.specs.steps.ShownIn.{shown_in};
 
 use crate::archive::Archive;
-use crate::entry::Shown;
-use crate::kind::{FactKind, IndexKind};
-use crate::shown_files::ShownFiles;
+use crate::entry::{FactKind, IndexKind, Shown};
+use crate::run::ShownFiles;
 
 /// So many definitions, uses and calls.
 #[derive(Clone, Copy, Debug, PartialEq, Eq)]
@@ -74,7 +73,7 @@ fn total_of(kind: IndexKind, archive: &Archive, shown: &[Shown]) -> Option<u64>
 }
 
 /// How many facts of each kind versions have together, if these are numbers.
-pub fn totals_of(archive: &Archive, shown: &[Shown]) -> Option<Totals>
+pub(crate) fn totals_of(archive: &Archive, shown: &[Shown]) -> Option<Totals>
     ensures { MatchOption result (AreTooMany archive.now shown.now)
         (AreTotals archive.now shown.now) }
 {

@@ -12,7 +12,7 @@ use Rattle.cb_desk.proofs.PlaceLemmas.{name-same}
 use Rattle.cb_desk.specs.Tags.{tag_key, tags}
 use Rattle.cb_desk.specs.Tags as desk
 use Rattle.cb_desk.specs.World.{File, IsAscending, World, text_of_file}
-use Rattle.cb_desk.specs.declared.tags.Format.TheVariants.{Extended}
+use Rattle.cb_desk.specs.declared.rows.Format.TheVariants.{Extended}
 use Rattle.cb_index.specs.Rows.{file_tags_named, tag_in, tags_named}
 use Rattle.cb_scan.proofs.FactsWithin.{all_in_order}
 use Rattle.cb_scan.proofs.NamedDefs.{defs-named}

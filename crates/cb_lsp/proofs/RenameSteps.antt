@@ -10,7 +10,7 @@ use Rattle.cb_desk.specs.World.{File}
 use Rattle.cb_index.proofs.FactOrderLemmas.{by_place}
 use Rattle.cb_index.specs.FactOrder.{ComesBefore, NamesAscend}
 use Rattle.cb_index.specs.Rows.{Fact, uses_of}
-use Rattle.cb_index.specs.declared.kind.FactKind.TheVariants.{Uses}
+use Rattle.cb_index.specs.declared.entry.FactKind.TheVariants.{Uses}
 use Rattle.cb_scan.specs.Order.{AreOrdered}
 use Rattle.cb_scan.specs.declared.lex.piece.Span.{Span}
 use Rattle.cb_scan.specs.declared.profile.Profile.{Profile}

@@ -8,7 +8,7 @@ use Rattle.json.specs.Json.{Json, Items, no_items, item}
 use Rattle.json.specs.Find.{get}
 use Rattle.cb_tags.specs.Names.{is_file_name}
 use Rattle.cb_wire.specs.Uris.{escaped, name_below, path_of}
-use Rattle.cb_desk.specs.declared.refusal.Refusal.{Refusal}
+use Rattle.cb_desk.specs.declared.change.Refusal.{Refusal}
 use Rattle.cb_desk.specs.Files.{load_refusal, loaded, reload_refusal, reloaded, unload_refusal}
 use Rattle.cb_desk.specs.Files.{unloaded, without_file}
 use Rattle.cb_desk.specs.Refusals.{text_of}

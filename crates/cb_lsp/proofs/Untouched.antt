@@ -7,7 +7,7 @@ use Rattle.cb_wire.specs.declared.reply.ErrorCode.TheVariants.{InvalidRequest}
 use Rattle.cb_wire.specs.declared.reply.ErrorCode.TheVariants.{ServerNotInitialized}
 use Rattle.cb_wire.specs.Trees.{error_reply, result_reply}
 use Rattle.cb_wire.specs.declared.units.Encoding.{Encoding}
-use Rattle.cb_desk.specs.declared.refusal.Refusal.{Refusal}
+use Rattle.cb_desk.specs.declared.change.Refusal.{Refusal}
 use Rattle.cb_desk.specs.Step.{unload}
 use Rattle.cb_desk.specs.World.{World, has_file}
 use Rattle.cb_lsp.specs.Changes.{TextChange, text_by}

@@ -3,8 +3,8 @@ use Rattle.std.proofs.Common.{◌≡◌, ◌∙◌, sym, ap, refl, subst, ◌<�
 use Rattle.std.proofs.Common.{Bool, true, false, cond, nat_le, nat_lt, List, []}
 use Rattle.std.proofs.Common.{None, Some, Result, Ok, Err, ◌⊎◌, inl, inr}
 use Rattle.cb_tags.specs.Names.{is_file_name}
-use Rattle.cb_desk.specs.declared.refusal.Refusal.{Refusal}
-use Rattle.cb_desk.specs.declared.refusal.Refusal.TheVariants.{HistoryFull, OutOfMemory, TooLarge}
+use Rattle.cb_desk.specs.declared.change.Refusal.{Refusal}
+use Rattle.cb_desk.specs.declared.change.Refusal.TheVariants.{HistoryFull, OutOfMemory, TooLarge}
 use Rattle.cb_desk.specs.Step.{Step, after, load, reload, refusal_of, step, unless_refused}
 use Rattle.cb_desk.specs.Timeline.{Timeline, advanced, changed, forgotten, judged, moved_on}
 use Rattle.cb_desk.specs.World.{File, World, has_file, text_of_file}

@@ -4,8 +4,8 @@ use Rattle.std.specs.Prelude.{ℕ, Bool, true, false, not, ◌&&◌, ◌||◌, �
 use Rattle.std.specs.Prelude.{codes, Option, None, Some, Result, Ok, Err, if◌then◌else◌}
 use Rattle.std.specs.List.{list_any}
 use Rattle.std.specs.Str.{bytes_eq}
-use Rattle.cb_desk.specs.declared.refusal.Refusal.{Refusal}
-use Rattle.cb_desk.specs.declared.refusal.Refusal.TheVariants.{OutOfMemory}
+use Rattle.cb_desk.specs.declared.change.Refusal.{Refusal}
+use Rattle.cb_desk.specs.declared.change.Refusal.TheVariants.{OutOfMemory}
 use Rattle.cb_desk.specs.Refusals.{text_of}
 use Rattle.cb_desk.specs.Step.{Step, load, reload, step, unload}
 use Rattle.cb_desk.specs.World.{File, World, WorldBounds, has_file, text_of_file}

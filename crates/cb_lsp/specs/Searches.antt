@@ -1,7 +1,7 @@
 -- The definitions of a session that a query names.
 use Rattle.std.specs.Prelude.{ℕ, Bool, ◌&&◌, ◌++◌, not, List, filter, take}
 use Rattle.std.specs.Str.{bytes_eq}
-use Rattle.cb_desk.specs.declared.tags.Format.TheVariants.{Extended}
+use Rattle.cb_desk.specs.declared.rows.Format.TheVariants.{Extended}
 use Rattle.cb_desk.specs.Tags.{tags}
 use Rattle.cb_desk.specs.World.{World}
 use Rattle.cb_index.specs.Rows.{tags_named}

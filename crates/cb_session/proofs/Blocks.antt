@@ -3,7 +3,7 @@ use Rattle.std.proofs.Common.{◌≡◌, ℕ, ◌<◌, ◌≤◌, Bool, true, fa
 use Rattle.std.proofs.Common.{drop, Some, Err, refl, sym, ap, ◌∙◌, subst, arith, nat_lt}
 use Rattle.std.proofs.lemmas.Bool.Decides.{nat_tests}
 use Rattle.std.specs.Global.{Global}
-use Rattle.cb_desk.specs.declared.refusal.Refusal.TheVariants.{InputEnded}
+use Rattle.cb_desk.specs.declared.change.Refusal.TheVariants.{InputEnded}
 use Rattle.cb_desk.specs.Step.{Step}
 use Rattle.cb_session.specs.declared.input.Fault.{Fault}
 use Rattle.cb_session.specs.declared.input.Fault.TheVariants.{Read, Write, Memory, LongLine}

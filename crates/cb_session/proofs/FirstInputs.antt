@@ -5,7 +5,7 @@ use Rattle.cb_session.specs.declared.input.Fault.TheVariants.{Read, Write, Memor
 use Rattle.cb_session.specs.declared.input.Fault.TheVariants.{ManyLines}
 use Rattle.cb_session.specs.declared.input.Input.{Input}
 use Rattle.cb_session.specs.declared.intake.LineRead.TheVariants.{End, Line, Long}
-use Rattle.cb_desk.specs.declared.refusal.Refusal.TheVariants.{LineTooLong}
+use Rattle.cb_desk.specs.declared.change.Refusal.TheVariants.{LineTooLong}
 use Rattle.cb_session.specs.Commands.{short_line}
 use Rattle.cb_tags.specs.Readers.{Reader, WhateverFollows, leaving}
 use Rattle.cb_session.specs.Inputs.{First, first, with_block}

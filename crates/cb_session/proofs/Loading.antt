@@ -1,8 +1,8 @@
 -- Loads one after another.
 use Rattle.std.proofs.Common.{◌≡◌, ◌≤◌, ◌+◌, ◌-◌, ◌^◌, ℕ, Bool, true, false, List, [], ◌∷◌, length}
 use Rattle.std.proofs.Common.{Result, Ok, Err, IsOk, refl, ap, ◌∙◌, arith, sym, subst}
-use Rattle.cb_desk.specs.declared.refusal.Refusal.{Refusal}
-use Rattle.cb_desk.specs.declared.refusal.Refusal.TheVariants.{OutOfMemory}
+use Rattle.cb_desk.specs.declared.change.Refusal.{Refusal}
+use Rattle.cb_desk.specs.declared.change.Refusal.TheVariants.{OutOfMemory}
 use Rattle.cb_desk.specs.World.{File, WorldBounds}
 use Rattle.cb_desk.specs.Step.{load, step}
 use Rattle.cb_desk.specs.Timeline.{Timeline, Changes, judged, changed, new_timeline}

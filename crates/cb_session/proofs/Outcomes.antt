@@ -2,8 +2,8 @@
 use Rattle.std.proofs.Common.{◌≡◌, ◌≢◌, ℕ, Bool, true, false, List, [], ◌∷◌, Result, Ok, Err, refl}
 use Rattle.std.proofs.Common.{sym, ap, ◌∙◌, subst}
 use Rattle.cb_tags.proofs.Prefixes.{PutsAll-none}
-use Rattle.cb_desk.specs.declared.refusal.Refusal.{Refusal}
-use Rattle.cb_desk.specs.declared.refusal.Refusal.TheVariants.{OutOfMemory}
+use Rattle.cb_desk.specs.declared.change.Refusal.{Refusal}
+use Rattle.cb_desk.specs.declared.change.Refusal.TheVariants.{OutOfMemory}
 use Rattle.cb_desk.specs.declared.rows.Field.{Field}
 use Rattle.cb_desk.specs.declared.rows.Field.TheVariants.{Text}
 use Rattle.cb_session.specs.declared.input.Fault.{Fault}
@@ -22,8 +22,8 @@ use Rattle.cb_desk.specs.Models.{step_of}
 use Rattle.cb_desk.specs.Answer.{answer}
 use Rattle.std.specs.Prelude.{IfErr}
 use Rattle.cb_tags.specs.Writers.{Writer}
-use Rattle.cb_desk.specs.declared.tags.Format.{Format}
-use Rattle.cb_desk.specs.declared.tags.Format.TheVariants.{Extended}
+use Rattle.cb_desk.specs.declared.rows.Format.{Format}
+use Rattle.cb_desk.specs.declared.rows.Format.TheVariants.{Extended}
 use Rattle.cb_session.specs.Requests.{Request, query, change, undo, redo, rebuild, tags_file}
 use Rattle.cb_session.specs.Requests.{listing, marks, stack, refused, nothing, quit}
 use Rattle.cb_session.specs.Serving.{Does}

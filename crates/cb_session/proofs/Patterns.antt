@@ -12,12 +12,12 @@ use Rattle.cb_session.specs.Commands.{command_line, short_line}
 use Rattle.cb_session.specs.Models.{HasPattern}
 use Rattle.cb_session.specs.Requests.{Request, refused, quit, change, undo, redo, rebuild}
 use Rattle.cb_session.specs.Requests.{tags_file, listing, marks, stack, LineRequest, whole, block}
-use Rattle.cb_desk.specs.declared.refusal.Refusal.TheVariants.{BadCount}
+use Rattle.cb_desk.specs.declared.change.Refusal.TheVariants.{BadCount}
 use Rattle.cb_desk.specs.declared.rows.Field.{Field}
 use Rattle.cb_desk.specs.Answer.{field_of_digit}
 use Rattle.cb_session.specs.declared.line.Purpose.{Purpose}
 use Rattle.cb_session.specs.declared.line.Purpose.TheVariants.{Load, Reload}
-use Rattle.cb_desk.specs.declared.tags.Format.TheVariants.{Plain, Extended}
+use Rattle.cb_desk.specs.declared.rows.Format.TheVariants.{Plain, Extended}
 use Rattle.cb_desk.specs.Step.{mark_all, pop}
 
 abbrev IsPatterned : LineRequest → Type 0

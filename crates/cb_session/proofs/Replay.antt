@@ -1,7 +1,7 @@
 -- The timeline of a run and the changes that survive move together.
 use Rattle.std.proofs.Common.{◌≡◌, ◌∙◌, sym, ap, refl, subst, ℕ, ◌+◌, Bool, List, [], ◌∷◌, ◌++◌}
 use Rattle.std.proofs.Common.{map, Result, Ok, Err}
-use Rattle.cb_desk.specs.declared.refusal.Refusal.{Refusal}
+use Rattle.cb_desk.specs.declared.change.Refusal.{Refusal}
 use Rattle.cb_desk.specs.Step.{load}
 use Rattle.cb_desk.specs.Survivors.{Kept, kept_after, kept_by, none_kept, or_stays, replay}
 use Rattle.cb_desk.specs.Survivors.{timeline_of, worlds_after, worlds_before}

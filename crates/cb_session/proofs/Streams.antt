@@ -9,7 +9,7 @@ use Rattle.std.specs.List.{position_or_len, before_first, after_first}
 use Rattle.std.proofs.lemmas.List.{take_all, drop_all, take-append-le, length-append, length-take}
 use Rattle.std.proofs.Math.Seq.{take-append_seam, take-length, drop-append_seam, drop-append-add}
 use Rattle.std.specs.Io.KnownBytes.{Consumes, IsAtEnd}
-use Rattle.cb_desk.specs.declared.refusal.Refusal.TheVariants.{LineTooLong}
+use Rattle.cb_desk.specs.declared.change.Refusal.TheVariants.{LineTooLong}
 use Rattle.cb_tags.specs.declared.feed.ReadFault.{ReadFault}
 use Rattle.cb_tags.specs.declared.feed.Stage.TheVariants.{Failed}
 use Rattle.cb_session.specs.declared.input.Fault.{Fault}

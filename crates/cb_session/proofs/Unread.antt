@@ -4,7 +4,7 @@ use Rattle.std.proofs.Common.{length, take, drop, Result, Ok, Err, refl, sym, ap
 use Rattle.std.proofs.Common.{nat_lt, append_assoc}
 use Rattle.std.specs.Prelude.{IfErr}
 use Rattle.std.proofs.lemmas.List.{drop_all, length-append, take-append-drop}
-use Rattle.cb_desk.specs.declared.refusal.Refusal.TheVariants.{InputEnded}
+use Rattle.cb_desk.specs.declared.change.Refusal.TheVariants.{InputEnded}
 use Rattle.cb_tags.specs.declared.feed.ReadFault.{ReadFault}
 use Rattle.cb_tags.specs.declared.feed.Stage.{Stage}
 use Rattle.cb_tags.specs.declared.feed.Stage.TheVariants.{Ended, Failed}

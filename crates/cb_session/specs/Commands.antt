@@ -6,10 +6,10 @@ use Rattle.std.specs.List.{list_all, slice_split, position}
 use Rattle.std.specs.Str.{bytes_eq}
 use Rattle.std.specs.Str.Parse.{digits_value}
 use Rattle.cb_scan.specs.Bytes.{space}
-use Rattle.cb_desk.specs.declared.refusal.Refusal.TheVariants.{UnknownCommand, BadCount, NoPattern}
-use Rattle.cb_desk.specs.declared.refusal.Refusal.TheVariants.{NoSuchField}
+use Rattle.cb_desk.specs.declared.change.Refusal.TheVariants.{UnknownCommand, BadCount, NoPattern}
+use Rattle.cb_desk.specs.declared.change.Refusal.TheVariants.{NoSuchField}
 use Rattle.cb_desk.specs.declared.rows.Field.{Field}
-use Rattle.cb_desk.specs.declared.tags.Format.TheVariants.{Plain, Extended}
+use Rattle.cb_desk.specs.declared.rows.Format.TheVariants.{Plain, Extended}
 use Rattle.cb_desk.specs.Answer.{field_of_digit}
 use Rattle.cb_desk.specs.Step.{unload, rename, want, mark, mark_all, replace, tag, pop}
 use Rattle.cb_session.specs.declared.limits.TheConstants.{MOST_DIGITS}

@@ -2,8 +2,8 @@
 use Rattle.std.specs.Prelude.{ℕ, ◌+◌, Bool, true, false, List, [], ◌∷◌, ◌++◌, length, codes}
 use Rattle.std.specs.Prelude.{decimal, Result, Ok, Err}
 use Rattle.std.specs.List.{flat_map}
-use Rattle.cb_desk.specs.declared.refusal.Refusal.{Refusal}
-use Rattle.cb_desk.specs.declared.refusal.Refusal.TheVariants.{OutOfMemory}
+use Rattle.cb_desk.specs.declared.change.Refusal.{Refusal}
+use Rattle.cb_desk.specs.declared.change.Refusal.TheVariants.{OutOfMemory}
 use Rattle.cb_desk.specs.Refusals.{text_of}
 use Rattle.cb_desk.specs.Timeline.{Timeline, changed, undone, redone, judged}
 use Rattle.cb_desk.specs.declared.rows.Field.TheVariants.{Text}
@@ -12,8 +12,8 @@ use Rattle.cb_desk.specs.Step.{Step, want}
 use Rattle.cb_desk.specs.World.{World}
 use Rattle.cb_desk.specs.Tags.{tags, tags_text, head_count, listing_text}
 use Rattle.cb_tags.specs.TagLines.{Tag}
-use Rattle.cb_desk.specs.declared.tags.Format.{Format}
-use Rattle.cb_desk.specs.declared.tags.Format.TheVariants.{Extended}
+use Rattle.cb_desk.specs.declared.rows.Format.{Format}
+use Rattle.cb_desk.specs.declared.rows.Format.TheVariants.{Extended}
 use Rattle.cb_session.specs.Places.{mark_rows, stack_rows}
 use Rattle.cb_session.specs.Requests.{Request, query, change, undo, redo, rebuild, tags_file}
 use Rattle.cb_session.specs.Requests.{listing, marks, stack, refused, nothing, quit, overlong}

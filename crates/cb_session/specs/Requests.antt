@@ -1,8 +1,8 @@
 -- What is asked at a prompt.
 use Rattle.std.specs.Prelude.{ℕ, List}
-use Rattle.cb_desk.specs.declared.refusal.Refusal.{Refusal}
+use Rattle.cb_desk.specs.declared.change.Refusal.{Refusal}
 use Rattle.cb_desk.specs.declared.rows.Field.{Field}
-use Rattle.cb_desk.specs.declared.tags.Format.{Format}
+use Rattle.cb_desk.specs.declared.rows.Format.{Format}
 use Rattle.cb_desk.specs.Step.{Step}
 use Rattle.cb_session.specs.declared.line.Purpose.{Purpose}
 

@@ -7,8 +7,8 @@ use Rattle.cb_scan.specs.Profiles.{all_by}
 use Rattle.cb_scan.specs.Definitions.{definitions_from}
 use Rattle.cb_scan.specs.examples.Functions.{finding}
 use Rattle.cb_scan.specs.Order.{put, in_order}
-use Rattle.cb_desk.specs.declared.refusal.Refusal.TheVariants.{InputEnded, NoPattern}
-use Rattle.cb_desk.specs.declared.refusal.Refusal.TheVariants.{UnknownCommand, BadCount}
+use Rattle.cb_desk.specs.declared.change.Refusal.TheVariants.{InputEnded, NoPattern}
+use Rattle.cb_desk.specs.declared.change.Refusal.TheVariants.{UnknownCommand, BadCount}
 use Rattle.cb_desk.specs.declared.rows.Field.TheVariants.{Definition}
 use Rattle.cb_desk.specs.Answer.{distinct, unindented}
 use Rattle.cb_desk.specs.Refusals.{text_of}

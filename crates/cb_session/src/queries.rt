@@ -2,7 +2,7 @@
 ghost use Rattle.std.specs.Prelude.{◌≡◌, ◌≢◌, []};
 ghost use Rattle.cb_desk.specs.Answer.{answer};
 ghost use Rattle.cb_desk.specs.Tags.{tags};
-ghost use Rattle.cb_desk.specs.declared.tags.Format.TheVariants.{Extended};
+ghost use Rattle.cb_desk.specs.declared.rows.Format.TheVariants.{Extended};
 ghost use Rattle.cb_session.specs.Output.{answer_lines, listing_reply, tags_reply};
 ghost use Rattle.cb_session.specs.Writing.{Puts};
 

@@ -13,8 +13,8 @@ use Rattle.cb_scan.specs.declared.profile.Rules.{Rules}
 use Rattle.cb_scan.specs.declared.profile.Rules.TheVariants.{Prototypes, Standard, Wide}
 use Rattle.cb_desk.specs.Answer.{field_of_digit}
 use Rattle.cb_desk.specs.declared.rows.Field.{Field}
-use Rattle.cb_desk.specs.declared.tags.Format.{Format}
-use Rattle.cb_desk.specs.declared.tags.Format.TheVariants.{Plain, Extended}
+use Rattle.cb_desk.specs.declared.rows.Format.{Format}
+use Rattle.cb_desk.specs.declared.rows.Format.TheVariants.{Plain, Extended}
 use Rattle.cb_desk.specs.World.{WorldBounds, standard_bounds}
 use Rattle.cb_words.specs.declared.job.Job.{Job}
 use Rattle.cb_words.specs.declared.job.Job.TheVariants.{Line, Find, Tags, Lsp}

@@ -14,12 +14,12 @@ use Rattle.cb_desk.specs.Step.{load, step, unless_refused}
 use Rattle.cb_desk.specs.Tags.{tags}
 use Rattle.cb_desk.specs.Timeline.{Timeline, advanced, changed, moved_on}
 use Rattle.cb_desk.specs.World.{File, World, WorldBounds}
-use Rattle.cb_desk.specs.declared.refusal.Refusal.{Refusal}
-use Rattle.cb_desk.specs.declared.refusal.Refusal.TheVariants.{HistoryFull}
+use Rattle.cb_desk.specs.declared.change.Refusal.{Refusal}
+use Rattle.cb_desk.specs.declared.change.Refusal.TheVariants.{HistoryFull}
 use Rattle.cb_desk.specs.declared.rows.Field.{Field}
 use Rattle.cb_desk.specs.declared.rows.Field.TheVariants.{Symbol, Definition, Called, Calling}
 use Rattle.cb_desk.specs.declared.rows.Field.TheVariants.{Text, File as FileName, Including}
-use Rattle.cb_desk.specs.declared.tags.Format.{Format}
+use Rattle.cb_desk.specs.declared.rows.Format.{Format}
 use Rattle.cb_session.specs.Operands.{Loads, LoadsAll, RefusedOperand, all_loaded, first_loaded}
 use Rattle.cb_session.specs.Operands.{first_refused, memory_refused}
 use Rattle.cb_session.specs.Output.{row_line}

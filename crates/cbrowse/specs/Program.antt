@@ -10,8 +10,8 @@ use Rattle.std.specs.declared.fs.attrs.Metadata.{Metadata}
 use Rattle.std.specs.declared.fs.options.OpenOptions.{OpenOptions}
 use Rattle.std.specs.Io.KnownBytes.{Appends}
 use Rattle.cb_desk.specs.Answer.{answer}
-use Rattle.cb_desk.specs.declared.tags.Format.{Format}
-use Rattle.cb_desk.specs.declared.tags.Format.TheVariants.{Extended}
+use Rattle.cb_desk.specs.declared.rows.Format.{Format}
+use Rattle.cb_desk.specs.declared.rows.Format.TheVariants.{Extended}
 use Rattle.cb_desk.specs.Tags.{tags, tags_text, listing_text}
 use Rattle.cb_desk.specs.World.{World, WorldBounds, File}
 use Rattle.cb_lsp.specs.declared.run.RunFault.{RunFault}

@@ -4,10 +4,10 @@ use Rattle.std.specs.Prelude.{if◌then◌else◌}
 use Rattle.cb_desk.specs.declared.edits.Edit.{Edit}
 use Rattle.cb_desk.specs.declared.edits.Step.{Step}
 use Rattle.cb_desk.specs.declared.edits.Step.TheVariants.{Keep, Take, Put}
-use Rattle.cb_desk.specs.declared.place_edits.Way.{Way}
-use Rattle.cb_desk.specs.declared.place_edits.Way.TheVariants.{Each, Both, Renamed}
+use Rattle.cb_desk.specs.declared.edits.Way.{Way}
+use Rattle.cb_desk.specs.declared.edits.Way.TheVariants.{Each, Both, Renamed}
 use Rattle.cb_desk.specs.declared.renaming.Renaming.{Renaming}
-use Rattle.cb_desk.specs.declared.spot.NumberedPlace.{NumberedPlace}
+use Rattle.cb_desk.specs.declared.places.NumberedPlace.{NumberedPlace}
 
 -- the list after some edits; each stands after so many places that stay
 abbrev pub edited_each : List Edit → List NumberedPlace → List NumberedPlace

@@ -7,20 +7,20 @@ use Rattle.cb_tags.specs.TagLines.{Tag}
 use Rattle.cb_index.specs.Counts.{column}
 use Rattle.cb_index.specs.Rows.{Fact}
 use Rattle.cb_index.specs.Shelved.{ShownFile}
-use Rattle.cb_index.specs.declared.kind.FactKind.{FactKind}
-use Rattle.cb_index.specs.declared.kind.FactKind.TheVariants.{Uses, Callees, Callers}
+use Rattle.cb_index.specs.declared.entry.FactKind.{FactKind}
+use Rattle.cb_index.specs.declared.entry.FactKind.TheVariants.{Uses, Callees, Callers}
 use Rattle.cb_index.specs.steps.Includes.{includes_left}
 use Rattle.cb_index.specs.steps.Left.{entries_left, tags_left}
 use Rattle.cb_desk.specs.Answer.{AnswerRow, file_rows, is_header, unindented}
 use Rattle.cb_desk.specs.World.{File}
-use Rattle.cb_desk.specs.declared.answers.defined.DefinedRows.{DefinedRows}
+use Rattle.cb_desk.specs.declared.answers.found.DefinedRows.{DefinedRows}
 use Rattle.cb_desk.specs.declared.answers.found.FoundRows.{FoundRows}
 use Rattle.cb_desk.specs.declared.answers.found.FoundRows.TheVariants.{Defs, Headers, Names}
-use Rattle.cb_desk.specs.declared.answers.headers.HeaderRows.{HeaderRows}
-use Rattle.cb_desk.specs.declared.answers.names.NameRows.{NameRows}
-use Rattle.cb_desk.specs.declared.answers.row_spot.RowSpot.{RowSpot}
-use Rattle.cb_desk.specs.declared.answers.row_spot.SpotText.{SpotText}
-use Rattle.cb_desk.specs.declared.answers.row_spot.SpotText.TheVariants.{LineOf, Whole}
+use Rattle.cb_desk.specs.declared.answers.found.HeaderRows.{HeaderRows}
+use Rattle.cb_desk.specs.declared.answers.found.NameRows.{NameRows}
+use Rattle.cb_desk.specs.declared.answers.found.RowSpot.{RowSpot}
+use Rattle.cb_desk.specs.declared.answers.found.SpotText.{SpotText}
+use Rattle.cb_desk.specs.declared.answers.found.SpotText.TheVariants.{LineOf, Whole}
 use Rattle.cb_desk.specs.declared.rows.Field.{Field}
 use Rattle.cb_desk.specs.declared.rows.Field.TheVariants.{Symbol, Called, Calling}
 

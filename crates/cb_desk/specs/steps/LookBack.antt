@@ -8,7 +8,7 @@ use Rattle.std.specs.Str.{bytes_eq}
 use Rattle.std.specs.declared.cmp.Ordering.TheVariants.{Less}
 use Rattle.cb_desk.specs.Answer.{AnswerRow, row_eq}
 use Rattle.cb_desk.specs.World.{place_key}
-use Rattle.cb_desk.specs.declared.answers.look_back.LookBack.{LookBack}
+use Rattle.cb_desk.specs.declared.answers.rows.LookBack.{LookBack}
 use Rattle.cb_desk.specs.steps.Lent.{found_left}
 
 -- the rows that are equal to none before them, nor to one of those that were seen

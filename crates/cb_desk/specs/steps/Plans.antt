@@ -7,7 +7,7 @@ use Rattle.cb_scan.specs.declared.profile.Profile.{Profile}
 use Rattle.cb_index.specs.Archived.{Archived, name_of}
 use Rattle.cb_index.specs.Scanned.{Scanned}
 use Rattle.cb_index.specs.declared.entry.Shown.{Shown}
-use Rattle.cb_desk.specs.declared.spot.NumberedPlace.{NumberedPlace}
+use Rattle.cb_desk.specs.declared.places.NumberedPlace.{NumberedPlace}
 use Rattle.cb_desk.specs.Step.{Step, load}
 use Rattle.cb_desk.specs.steps.Edits.{Edits, edited, turned_edits}
 use Rattle.cb_desk.specs.steps.Records.{AreThere, Fits, IsTurn, Kept, Numbered, Rooms, Turn, other}

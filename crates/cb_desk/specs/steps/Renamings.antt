@@ -3,7 +3,7 @@ use Rattle.std.specs.Prelude.{◌≡◌, ◌+◌, ◌-◌, ◌^◌, ℕ, Bool, t
 use Rattle.std.specs.Prelude.{min, max, not, if◌then◌else◌}
 use Rattle.std.specs.List.{count_by, prefix_len}
 use Rattle.cb_desk.specs.declared.renaming.Renaming.{Renaming}
-use Rattle.cb_desk.specs.declared.spot.NumberedPlace.{NumberedPlace}
+use Rattle.cb_desk.specs.declared.places.NumberedPlace.{NumberedPlace}
 use Rattle.cb_desk.specs.steps.Edits.{Edits, both, each, renamed, renaming, turned_renaming}
 
 -- a renaming makes one list from the other, and back

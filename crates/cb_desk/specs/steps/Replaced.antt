@@ -4,8 +4,8 @@ use Rattle.std.specs.Prelude.{if◌then◌else◌}
 use Rattle.cb_index.specs.Archived.{Archived}
 use Rattle.cb_index.specs.Files.{file_of}
 use Rattle.cb_index.specs.declared.entry.Shown.{Shown}
-use Rattle.cb_desk.specs.declared.present.renewal.Renewal.{Renewal}
-use Rattle.cb_desk.specs.declared.spot.NumberedPlace.{NumberedPlace}
+use Rattle.cb_desk.specs.declared.present.replace.Renewal.{Renewal}
+use Rattle.cb_desk.specs.declared.places.NumberedPlace.{NumberedPlace}
 use Rattle.cb_desk.specs.Desk.{is_marked}
 use Rattle.cb_desk.specs.Marks.{replaced_file}
 use Rattle.cb_desk.specs.Places.{is_place_of}

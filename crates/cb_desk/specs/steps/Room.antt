@@ -5,7 +5,7 @@ use Rattle.cb_scan.specs.TextFacts.{TextFacts}
 use Rattle.cb_index.specs.Archived.{Archived}
 use Rattle.cb_index.specs.Files.{call_count, def_count, total, use_count}
 use Rattle.cb_index.specs.declared.entry.Shown.{Shown}
-use Rattle.cb_index.specs.declared.room.Room.{Room}
+use Rattle.cb_index.specs.declared.shelf.Room.{Room}
 use Rattle.cb_index.specs.declared.totals.Totals.{Totals}
 use Rattle.cb_desk.specs.steps.Plans.{Planned}
 use Rattle.cb_desk.specs.steps.Records.{Kept}

@@ -2,7 +2,7 @@
 use Rattle.std.specs.Prelude.{◌≤◌, ◌+◌, List, [], ℕ, length, map, Option, Some, None, ⊤}
 use Rattle.std.specs.List.{flat_map}
 use Rattle.cb_scan.specs.Lines.{lines}
-use Rattle.cb_desk.specs.declared.limits.TheConstants.{MOST_BYTES}
+use Rattle.cb_desk.specs.declared.bounds.TheConstants.{MOST_BYTES}
 use Rattle.cb_desk.specs.declared.answers.texts.Searched.{Searched}
 use Rattle.cb_desk.specs.Answer.{AnswerRow, line_row, text_rows_in}
 use Rattle.cb_desk.specs.World.{File}

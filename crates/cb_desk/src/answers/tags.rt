@@ -9,7 +9,7 @@ ghost use Rattle.cb_index.specs.steps.Left.{tag_of_spot};
 ghost use Rattle.cb_tags.specs.TagLines.{tag_of};
 ghost use Rattle.cb_desk.specs.Tags.{file_tags, tag_key};
 
-use crate::tags::Format;
+use crate::rows::Format;
 use cb_index::{Shelf, TagRows as IndexedTags, TagSpot};
 use cb_tags::TagRow;
 use std::marker::Model;

@@ -3,7 +3,7 @@ ghost use Rattle.std.specs.Prelude.{◌≡◌, ◌≢◌, ◌≤◌, ◌*◌, []
 ghost use Rattle.std.specs.Iterator.{YieldsFirstBy, item_count};
 ghost use Rattle.std.specs.List.{flat_map};
 ghost use Rattle.cb_desk.specs.Answer.{text_rows_in};
-ghost use Rattle.cb_desk.specs.declared.limits.TheConstants.{MOST_BYTES, MOST_FILES};
+ghost use Rattle.cb_desk.specs.declared.bounds.TheConstants.{MOST_BYTES, MOST_FILES};
 ghost use Rattle.cb_desk.specs.Models.{row_of, file_of};
 ghost use Rattle.cb_desk.specs.steps.TextsLeft.{rows_in, rows_left, IsSmall};
 
@@ -104,7 +104,7 @@ pub struct TextRows<'a, 'p> {
 impl<'a, 'p> Model for TextRows<'a, 'p> {
     ghost use Rattle.std.specs.Prelude.{List, ◌++◌, ◌≢◌, ◌≤◌, ◌*◌, [], length};
     ghost use Rattle.cb_desk.specs.Answer.{AnswerRow};
-    ghost use Rattle.cb_desk.specs.declared.limits.TheConstants.{MOST_BYTES, MOST_FILES};
+    ghost use Rattle.cb_desk.specs.declared.bounds.TheConstants.{MOST_BYTES, MOST_FILES};
     ghost use Rattle.cb_desk.specs.steps.TextsLeft.{rows_in, rows_of, IsSmallIfAny};
 
     ghost Value = { List AnswerRow };

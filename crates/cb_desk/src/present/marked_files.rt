@@ -10,7 +10,7 @@ ghost use Rattle.cb_desk.specs.steps.Records.{place_in};
 ghost use Rattle.cb_desk.specs.steps.Replaced.{has_mark, places_in};
 
 use crate::answers::split_named;
-use crate::spot::NumberedPlace;
+use crate::places::NumberedPlace;
 use cb_index::{Archive, Shown, ShownFiles};
 use std::marker::Model;
 

@@ -1,6 +1,26 @@
-//! The replacement of the wanted text on the marked lines.
-ghost use Rattle.std.specs.Prelude.{◌≡◌, true, filter, None, Some, IfOk};
+//! The replacement of the wanted text on the marked lines: the files that get new versions under
+//! the names that they have, and the frames of lines that are still there.
+ghost use Rattle.std.specs.Prelude.{
+  ◌≡◌,
+  ◌<◌,
+  ◌≤◌,
+  ◌+◌,
+  ◌^◌,
+  IfOk,
+  None,
+  Some,
+  false,
+  filter,
+  length,
+  map,
+  true,
+};
+ghost use Rattle.std.specs.Cmp.Lexicographic.{slice_cmp};
+ghost use Rattle.std.specs.List.Sorted.{IsNonDecreasingBy, IsPartitionPoint, IsPermutation};
+ghost use Rattle.std.specs.Ordering.{is_lt, nat_cmp};
+ghost use Rattle.cb_index.specs.Archived.{name_of};
 ghost use Rattle.cb_index.specs.Files.{AreAscending};
+ghost use Rattle.cb_index.specs.declared.entry.Shown.{Shown};
 ghost use Rattle.cb_desk.specs.Desk.{CountsUpTo, bytes_in, new_texts};
 ghost use Rattle.cb_desk.specs.Marks.{
   replace_refusal,
@@ -9,23 +29,198 @@ ghost use Rattle.cb_desk.specs.Marks.{
   with_files,
 };
 ghost use Rattle.cb_desk.specs.World.{IsValidWorld, is_short};
+ghost use Rattle.cb_desk.specs.declared.present.replace.Renewal.{Renewal};
+ghost use Rattle.cb_desk.specs.steps.Edits.{IsDifference};
 ghost use Rattle.cb_desk.specs.steps.Plans.{IsPlan};
-ghost use Rattle.cb_desk.specs.steps.Records.{world_in};
-ghost use Rattle.cb_desk.specs.steps.Replaced.{files_changed, has_mark, texts_of};
+ghost use Rattle.cb_desk.specs.steps.Records.{place_in, world_in};
+ghost use Rattle.cb_desk.specs.steps.Replaced.{
+  files_changed,
+  files_then,
+  has_mark,
+  new_of,
+  old_of,
+  renewals,
+  staying,
+  stays_in,
+  texts_of,
+};
 ghost use Rattle.cb_desk.specs.steps.Walks.{IsKept};
 
 use crate::Refusal;
-use crate::new_versions::NewVersions;
-use crate::place_edits::difference;
-use crate::plan::Plan;
-use crate::present::refusals::is_short;
-use crate::present::renewal::{new_versions, old_versions, sorted_renewals};
+use crate::edits::{PlaceEdits, difference};
+use crate::places::NumberedPlace;
+use crate::plan::{NewVersions, Plan, Record};
+use crate::present::changes::is_short;
 use crate::present::replaced::Replacing;
 use crate::present::{Present, sum};
-use crate::record::Record;
-use cb_index::Shown;
+use cb_index::{Archive, Shown};
 use cb_scan::Meter;
 use std::alloc::{AllocError, Global};
+use std::cmp::Ordering;
+
+// ---- new versions under the names that are there
+
+/// A file that gets another version: the number of its name, and those of both versions.
+#[derive(Clone, Copy, Debug)]
+pub(crate) struct Renewal {
+    pub(crate) name: u32,
+    pub(crate) old: u32,
+    pub(crate) new: u32,
+}
+
+/// The renewals of files. The new versions are numbered in their order, from a first number on.
+fn renewals(alloc: Global, files: &[Shown], first: u32) -> Result<Vec<Renewal>, AllocError>
+    requires { first + length files.now < 2 ^ 32 }
+    ensures { IfOk result (λ made. made.items ≡ renewals first files.now) }
+{
+    let mut made = Vec::with_capacity(alloc, files.len())?;
+    let mut new = first;
+    for file in files {
+        made.push(Renewal {
+            name: file.name,
+            old: file.version,
+            new,
+        })?;
+        new += 1;
+    }
+    Ok(made)
+}
+
+/// Sorts renewals by the numbers of the names.
+fn sort_by_name(renewals: &mut [Renewal])
+    ensures same { IsPermutation renewals.old renewals.new }
+    ensures rising { IsNonDecreasingBy (λ (r : Renewal). r.name) renewals.new }
+{
+    renewals.sort_unstable_by(
+        |a: &Renewal, b: &Renewal| -> Ordering
+            ensures { result ≡ nat_cmp a.now.name b.now.name }
+        { a.name.cmp(&b.name) },
+    );
+}
+
+/// The renewals of files, by the numbers of the names.
+fn sorted_renewals(alloc: Global, files: &[Shown], first: u32) -> Result<Vec<Renewal>, AllocError>
+    requires { first + length files.now < 2 ^ 32 }
+    ensures same { IfOk result (λ made. IsPermutation (renewals first files.now) made.items) }
+    ensures rising { IfOk result (λ made. IsNonDecreasingBy (λ (r : Renewal). r.name) made.items) }
+{
+    let mut made = renewals(alloc, files, first)?;
+    sort_by_name(made.as_mut_slice());
+    Ok(made)
+}
+
+/// What is shown before renewals.
+fn old_versions(alloc: Global, renewals: &[Renewal]) -> Result<Vec<Shown>, AllocError>
+    ensures { IfOk result (λ made. made.items ≡ map old_of renewals.now) }
+{
+    let mut made = Vec::with_capacity(alloc, renewals.len())?;
+    for renewal in renewals {
+        made.push(Shown {
+            name: renewal.name,
+            version: renewal.old,
+        })?;
+    }
+    Ok(made)
+}
+
+/// What is shown after renewals.
+fn new_versions(alloc: Global, renewals: &[Renewal]) -> Result<Vec<Shown>, AllocError>
+    ensures { IfOk result (λ made. made.items ≡ map new_of renewals.now) }
+{
+    let mut made = Vec::with_capacity(alloc, renewals.len())?;
+    for renewal in renewals {
+        made.push(Shown {
+            name: renewal.name,
+            version: renewal.new,
+        })?;
+    }
+    Ok(made)
+}
+
+// ---- frames that stay
+
+/// Where the files begin whose names are not below a name, by binary search.
+fn index_for(archive: &Archive, files: &[Shown], name: &[u8]) -> usize
+    requires { AreAscending archive.now files.now }
+    ensures within { result ≤ length files.now }
+    ensures parted { IsPartitionPoint
+        (λ (s : Shown). is_lt (slice_cmp nat_cmp (name_of archive.now s.name) name.now) ≡ true)
+        (λ (s : Shown). is_lt (slice_cmp nat_cmp (name_of archive.now s.name) name.now) ≡ false)
+        files.now result }
+{
+    files.partition_point(
+        |s: &Shown| -> bool
+            ensures { result
+                ≡ is_lt (slice_cmp nat_cmp (name_of archive.entry.now s.now.name) name.entry.now) }
+        { archive.name(s.name).cmp(name) == Ordering::Less },
+    )
+}
+
+impl<'a> Replacing<'a> {
+    /// Whether a place stays a line where some files get new versions. In other files it does.
+    fn stays(self, changed: &[Shown], versions: &NewVersions, place: NumberedPlace) -> bool
+        requires ascending { AreAscending self.archive.now changed.now }
+        requires versions { versions.now.texts ≡ texts_of
+            (files_then self.archive.now self.marks.now self.old.now self.new.now changed.now) }
+        ensures { result ≡ stays_in (files_then self.entry.archive.now self.entry.marks.now
+            self.entry.old.now self.entry.new.now changed.now)
+            (place_in self.entry.archive.now place) }
+    {
+        let name = self.archive.name(place.name);
+        let index = index_for(self.archive, changed, name);
+        if index < changed.len() && self.archive.name(changed[index].name) == name {
+            1 <= place.line && place.line <= versions.source(index).line_count()
+        } else {
+            true
+        }
+    }
+
+    /// The places that stay lines where some files get new versions.
+    fn staying(
+        self,
+        alloc: Global,
+        changed: &[Shown],
+        versions: &NewVersions,
+        places: &[NumberedPlace],
+    ) -> Result<Vec<NumberedPlace>, AllocError>
+        requires ascending { AreAscending self.archive.now changed.now }
+        requires versions { versions.now.texts ≡ texts_of
+            (files_then self.archive.now self.marks.now self.old.now self.new.now changed.now) }
+        ensures { IfOk result (λ kept. kept.items ≡ staying self.entry.archive.now
+            (files_then self.entry.archive.now self.entry.marks.now self.entry.old.now
+            self.entry.new.now changed.now) places.now) }
+    {
+        let mut kept = Vec::new(alloc);
+        for place in places {
+            if self.stays(changed, versions, *place) {
+                kept.push(*place)?;
+            }
+        }
+        Ok(kept)
+    }
+
+    /// The edits that take away the places of lines that are gone where some files get new
+    /// versions.
+    pub(crate) fn edits_staying(
+        self,
+        alloc: Global,
+        changed: &[Shown],
+        versions: &NewVersions,
+        places: &[NumberedPlace],
+    ) -> Result<PlaceEdits, AllocError>
+        requires ascending { AreAscending self.archive.now changed.now }
+        requires versions { versions.now.texts ≡ texts_of
+            (files_then self.archive.now self.marks.now self.old.now self.new.now changed.now) }
+        ensures { IfOk result (λ edits. IsDifference edits places.now
+            (staying self.entry.archive.now (files_then self.entry.archive.now
+            self.entry.marks.now self.entry.old.now self.entry.new.now changed.now) places.now)) }
+    {
+        let kept = self.staying(alloc, changed, versions, places)?;
+        difference(alloc, None, places, kept.as_slice())
+    }
+}
+
+// ---- plans
 
 impl Present {
     /// The replacement of a text, which is the wanted one, on the marked lines.

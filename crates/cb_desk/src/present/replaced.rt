@@ -23,7 +23,7 @@ ghost use Rattle.cb_index.specs.steps.ShownIn.{shown_in};
 ghost use Rattle.cb_desk.specs.Desk.{CountsUpTo, bytes_in};
 ghost use Rattle.cb_desk.specs.Marks.{is_too_large, marked_lines, replaced_file};
 ghost use Rattle.cb_desk.specs.World.{AreAscending, File};
-ghost use Rattle.cb_desk.specs.declared.limits.TheConstants.{MOST_BYTES};
+ghost use Rattle.cb_desk.specs.declared.bounds.TheConstants.{MOST_BYTES};
 ghost use Rattle.cb_desk.specs.steps.Replaced.{
   file_then,
   files_then,
@@ -32,11 +32,10 @@ ghost use Rattle.cb_desk.specs.steps.Replaced.{
   texts_of,
 };
 
-use crate::new_versions::NewVersions;
+use crate::places::NumberedPlace;
+use crate::plan::{NewVersions, scanned_source};
 use crate::present::marked_files::{MarkedFiles, count_in};
 use crate::present::replacement::{replaced_len, replaced_text};
-use crate::scanned::scanned_source;
-use crate::spot::NumberedPlace;
 use cb_index::{Archive, Shown, ShownFiles, Version};
 use cb_scan::{Meter, Source};
 use std::alloc::{AllocError, Global};

@@ -7,8 +7,8 @@ use Rattle.cb_index.specs.Archived.{Archived, name_of}
 use Rattle.cb_index.specs.Entries.{Keyer, key_cmp, sort_key}
 use Rattle.cb_index.specs.declared.entry.Entry.{Entry}
 use Rattle.cb_index.specs.declared.entry.Shown.{Shown}
-use Rattle.cb_index.specs.declared.bound.Side.{Side}
-use Rattle.cb_index.specs.declared.bound.Side.TheVariants.{Behind, Before, After}
+use Rattle.cb_index.specs.declared.order.Side.{Side}
+use Rattle.cb_index.specs.declared.order.Side.TheVariants.{Behind, Before, After}
 
 -- whether an entry stands ahead of a bound
 unfoldable pub is_ahead : Keyer → Archived → Side → Entry → Bool

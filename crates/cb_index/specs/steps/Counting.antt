@@ -3,7 +3,7 @@ use Rattle.std.specs.Prelude.{Bool, List, [], ◌∷◌, ◌++◌, if◌then◌e
 use Rattle.std.specs.List.{list_any}
 use Rattle.cb_index.specs.Counts.{same_row}
 use Rattle.cb_index.specs.Rows.{Fact}
-use Rattle.cb_index.specs.declared.kind.FactKind.{FactKind}
+use Rattle.cb_index.specs.declared.entry.FactKind.{FactKind}
 
 -- whether the row of a fact is that of one of those that were seen
 abbrev pub has_row : FactKind → List Fact → Fact → Bool

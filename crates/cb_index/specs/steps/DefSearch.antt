@@ -4,7 +4,7 @@ use Rattle.cb_index.specs.Held.{all_entries}
 use Rattle.cb_index.specs.Kinds.{def_kind, keyer_of, lister_of}
 use Rattle.cb_index.specs.steps.ShownIn.{shown_in}
 use Rattle.cb_index.specs.steps.ToCome.{earlier, is_to_come, to_come}
-use Rattle.cb_index.specs.declared.def_search.DefSearch.{DefSearch}
+use Rattle.cb_index.specs.declared.tags.DefSearch.{DefSearch}
 use Rattle.cb_index.specs.declared.entry.Entry.{Entry}
 
 -- the definitions that a search is still to give

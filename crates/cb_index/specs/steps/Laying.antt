@@ -12,10 +12,10 @@ use Rattle.cb_index.specs.Counts.{function_of}
 use Rattle.cb_index.specs.Items.{item_count, item_line, item_span}
 use Rattle.cb_index.specs.Scanned.{Scanned, facts_of}
 use Rattle.cb_index.specs.steps.Found.{fact_at}
-use Rattle.cb_index.specs.declared.kind.FactKind.{FactKind}
-use Rattle.cb_index.specs.declared.laid.Likeness.{Likeness}
-use Rattle.cb_index.specs.declared.laid.Likeness.TheVariants.{Key, Row}
-use Rattle.cb_index.specs.declared.laid.Mention.{Mention}
+use Rattle.cb_index.specs.declared.entry.FactKind.{FactKind}
+use Rattle.cb_index.specs.declared.links.Likeness.{Likeness}
+use Rattle.cb_index.specs.declared.links.Likeness.TheVariants.{Key, Row}
+use Rattle.cb_index.specs.declared.links.Mention.{Mention}
 use Rattle.cb_index.specs.declared.links.Link.{Link}
 
 -- ---- what items are sorted by

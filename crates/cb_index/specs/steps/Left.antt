@@ -17,7 +17,7 @@ use Rattle.cb_index.specs.steps.Runs.{run_items}
 use Rattle.cb_index.specs.steps.ShownIn.{shown_in}
 use Rattle.cb_index.specs.steps.Searched.{searched_at, searched_count}
 use Rattle.cb_index.specs.Scanned.{Scanned, facts_of}
-use Rattle.cb_index.specs.declared.entries.Entries.{Entries}
+use Rattle.cb_index.specs.declared.includes.Entries.{Entries}
 use Rattle.cb_index.specs.declared.entry.Entry.{Entry}
 use Rattle.cb_index.specs.declared.entry.Shown.{Shown}
 use Rattle.cb_index.specs.declared.rows.FactRow.{FactRow}
@@ -29,7 +29,7 @@ use Rattle.cb_index.specs.declared.facts.Group.{Group}
 use Rattle.cb_index.specs.declared.facts.Groups.{Groups}
 use Rattle.cb_index.specs.declared.facts.Groups.TheVariants as groups
 use Rattle.cb_index.specs.declared.facts.Walk.{Walk}
-use Rattle.cb_index.specs.declared.kind.FactKind.{FactKind}
+use Rattle.cb_index.specs.declared.entry.FactKind.{FactKind}
 use Rattle.cb_index.specs.declared.tags.Defs.{Defs}
 use Rattle.cb_index.specs.declared.tags.Defs.TheVariants.{Indexed, Searched}
 use Rattle.cb_index.specs.declared.tags.TagRows.{TagRows}

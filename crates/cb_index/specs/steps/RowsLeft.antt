@@ -3,11 +3,11 @@ use Rattle.std.specs.Prelude.{ℕ, List, [], ◌∷◌, ◌++◌, Option, Some, 
 use Rattle.cb_index.specs.steps.Chains.{chain_left}
 use Rattle.cb_index.specs.steps.Runs.{run_items}
 use Rattle.cb_index.specs.steps.Spread.{row_of, rows_in}
-use Rattle.cb_index.specs.declared.range.EntryRows.{EntryRows}
-use Rattle.cb_index.specs.declared.range.Items.{Items}
-use Rattle.cb_index.specs.declared.range.Items.TheVariants.{Nothing, One, Chain}
-use Rattle.cb_index.specs.declared.range.Rows.{Rows}
-use Rattle.cb_index.specs.declared.row.Row.{Row}
+use Rattle.cb_index.specs.declared.sorted.EntryRows.{EntryRows}
+use Rattle.cb_index.specs.declared.sorted.Items.{Items}
+use Rattle.cb_index.specs.declared.sorted.Items.TheVariants.{Nothing, One, Chain}
+use Rattle.cb_index.specs.declared.sorted.Rows.{Rows}
+use Rattle.cb_index.specs.declared.sorted.Row.{Row}
 
 abbrev pub items_left : Items → List ℕ
 items_left Nothing = []

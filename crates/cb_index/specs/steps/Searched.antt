@@ -9,7 +9,7 @@ use Rattle.cb_index.specs.steps.Found.{fact_at}
 use Rattle.cb_index.specs.steps.Given.{gives}
 use Rattle.cb_index.specs.Scanned.{Scanned}
 use Rattle.cb_index.specs.declared.entry.Shown.{Shown}
-use Rattle.cb_index.specs.declared.kind.FactKind.{FactKind}
+use Rattle.cb_index.specs.declared.entry.FactKind.{FactKind}
 
 -- the items of a text that have a key
 abbrev pub items_with : FactKind → Scanned → List ℕ → List ℕ

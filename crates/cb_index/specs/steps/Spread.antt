@@ -5,8 +5,8 @@ use Rattle.cb_index.specs.Archived.{Archived, text_at}
 use Rattle.cb_index.specs.Items.{later}
 use Rattle.cb_index.specs.Scanned.{Scanned}
 use Rattle.cb_index.specs.declared.entry.Entry.{Entry}
-use Rattle.cb_index.specs.declared.row.Row.{Row}
-use Rattle.cb_index.specs.declared.kind.FactKind.{FactKind}
+use Rattle.cb_index.specs.declared.sorted.Row.{Row}
+use Rattle.cb_index.specs.declared.entry.FactKind.{FactKind}
 
 -- an item and those behind it that have its key
 abbrev pub items_from : FactKind → Scanned → ℕ → List ℕ

@@ -9,11 +9,11 @@ use Rattle.cb_index.specs.Entries.{Keyer, has_key, has_key_from, sort_key}
 use Rattle.cb_index.specs.Held.{all_entries}
 use Rattle.cb_index.specs.Kinds.{keyer_of, lister_of, prefix_of}
 use Rattle.cb_index.specs.steps.Found.{tag_at}
-use Rattle.cb_index.specs.declared.asked.Asked.{Asked}
-use Rattle.cb_index.specs.declared.asked.Asked.TheVariants.{Every, OfKey, FromKey}
+use Rattle.cb_index.specs.declared.entry.Asked.{Asked}
+use Rattle.cb_index.specs.declared.entry.Asked.TheVariants.{Every, OfKey, FromKey}
 use Rattle.cb_index.specs.declared.entry.Entry.{Entry}
 use Rattle.cb_index.specs.declared.entry.Shown.{Shown}
-use Rattle.cb_index.specs.declared.kind.IndexKind.{IndexKind}
+use Rattle.cb_index.specs.declared.entry.IndexKind.{IndexKind}
 
 -- whether an entry goes behind the last one that was given, if one was
 abbrev pub is_later : Keyer → Archived → Option Entry → Entry → Bool

@@ -1,7 +1,7 @@
 -- What the steps of a message leave of the files and the documents.
 use Rattle.std.specs.Prelude.{◌≡◌, ◌≤◌, ◌∷◌, ℕ, Bool, false, List, [], Option, None, Some}
 use Rattle.std.specs.Prelude.{Result, Ok, Err, if◌then◌else◌}
-use Rattle.cb_desk.specs.declared.refusal.Refusal.{Refusal}
+use Rattle.cb_desk.specs.declared.change.Refusal.{Refusal}
 use Rattle.cb_desk.specs.Timeline.{Timeline}
 use Rattle.cb_desk.specs.World.{File, World, text_of_file}
 use Rattle.cb_lsp.specs.Documents.{Document, Reading, Kept, Oracle, Told, Work, changed_into}

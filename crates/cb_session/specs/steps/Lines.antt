@@ -1,7 +1,7 @@
 -- What reading a line or a block does to a reader.
 use Rattle.std.specs.Prelude.{◌≡◌, ℕ, ◌≤◌, ◌<◌, List, [], length, take, drop, Option, None, Some}
 use Rattle.std.specs.Prelude.{Result, Ok, Err, Vec, nat_le, if◌then◌else◌}
-use Rattle.cb_desk.specs.declared.refusal.Refusal.TheVariants.{LineTooLong}
+use Rattle.cb_desk.specs.declared.change.Refusal.TheVariants.{LineTooLong}
 use Rattle.cb_tags.specs.declared.feed.Stage.TheVariants.{Failed}
 use Rattle.cb_session.specs.declared.input.Fault.{Fault}
 use Rattle.cb_session.specs.declared.input.Fault.TheVariants.{Read, Memory, LongLine}

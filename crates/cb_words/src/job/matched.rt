@@ -33,7 +33,7 @@ ghost use Rattle.cb_words.specs.Jobs.{
 };
 ghost use Rattle.cb_words.specs.Usages.{IsBadSearch};
 ghost use Rattle.cb_words.specs.declared.job.Job.{Job};
-ghost use Rattle.cb_desk.specs.declared.tags.Format.{Format};
+ghost use Rattle.cb_desk.specs.declared.rows.Format.{Format};
 ghost use Rattle.cb_words.specs.Commands.{rows_in};
 
 use crate::job::{Job, Usage};

@@ -1,6 +1,6 @@
 use Rattle.std.proofs.Common.{◌≡◌, ◌≤◌, ◌+◌, length}
 use Rattle.cb_scan.specs.Lines.{lines}
-use Rattle.cb_desk.specs.declared.limits.TheConstants.{MOST_BYTES}
+use Rattle.cb_desk.specs.declared.bounds.TheConstants.{MOST_BYTES}
 use Rattle.cb_desk.specs.steps.Search.{found_from}
 use Rattle.cb_desk.proofs.search.next_line.Given as goal
 

@@ -1,5 +1,5 @@
 use Rattle.std.proofs.Common.{subst, sym}
-use Rattle.cb_index.specs.declared.kind.FactKind.TheVariants.{Callees}
+use Rattle.cb_index.specs.declared.entry.FactKind.TheVariants.{Callees}
 use Rattle.cb_index.proofs.FactOrderLemmas.{by_place}
 use Rattle.cb_lsp.specs.steps.References.{AreByPlace, UsesAreByPlace}
 use Rattle.cb_lsp.proofs.TagsByPlace.{tags_named-by_place}

@@ -4,7 +4,7 @@ use Rattle.cb_scan.specs.declared.profile.Profile.{Profile}
 use Rattle.cb_scan.specs.Order.{in_order}
 use Rattle.cb_index.specs.Rows.{tags_by_name, tags_by_tag_name}
 use Rattle.cb_index.specs.Shelved.{files}
-use Rattle.cb_desk.specs.declared.tags.Format.TheVariants.{Plain, Extended}
+use Rattle.cb_desk.specs.declared.rows.Format.TheVariants.{Plain, Extended}
 use Rattle.cb_desk.specs.Tags.{file_tags, tag_key}
 use Rattle.cb_desk.specs.World.{File}
 use Rattle.cb_desk.proofs.answers.tags.tag_rows.Goals as goal

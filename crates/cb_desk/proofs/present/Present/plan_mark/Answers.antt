@@ -1,6 +1,6 @@
 use Rattle.std.proofs.Common.{rules, ◌≡◌, ◌∙◌, ap, ◌<◌, subst, sym, None, Some}
 use Rattle.std.specs.List.{AllByRecursion}
-use Rattle.cb_desk.specs.declared.spot.NumberedPlace.{NumberedPlace}
+use Rattle.cb_desk.specs.declared.places.NumberedPlace.{NumberedPlace}
 use Rattle.cb_desk.specs.Marks.{toggled_at}
 use Rattle.cb_desk.specs.steps.Plans.{IsPlan, with_marks}
 use Rattle.cb_desk.specs.steps.Records.{place_in, toggled_numbers, world_in}

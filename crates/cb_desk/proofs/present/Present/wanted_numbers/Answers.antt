@@ -1,6 +1,6 @@
 use Rattle.std.proofs.Common.{rules, ◌≡◌, ◌∙◌, ◌<◌, ap, map, subst, sym, Some, IfOk}
 use Rattle.std.specs.List.{AllByRecursion}
-use Rattle.cb_desk.specs.declared.spot.NumberedPlace.{NumberedPlace}
+use Rattle.cb_desk.specs.declared.places.NumberedPlace.{NumberedPlace}
 use Rattle.cb_desk.specs.Marks.{wanted_places}
 use Rattle.cb_desk.specs.steps.Records.{held_numbers, place_in, world_in}
 use Rattle.cb_desk.proofs.HeldRows.{wanted-held}

@@ -1,6 +1,6 @@
 use Rattle.std.proofs.Common.{◌≡◌, ◌≤◌, ◌+◌, ◌*◌, ℕ, Bool, List, map, length}
 use Rattle.std.specs.List.{flat_map}
-use Rattle.cb_desk.specs.declared.limits.TheConstants.{MOST_BYTES}
+use Rattle.cb_desk.specs.declared.bounds.TheConstants.{MOST_BYTES}
 use Rattle.cb_desk.specs.Replacement.{replaced_if_marked, replaced_text}
 use Rattle.cb_desk.proofs.present.replacement.replaced_len.Given as goal
 

@@ -1,6 +1,6 @@
 use Rattle.std.proofs.Common.{rules, ◌≡◌, ◌≤◌, ◌<◌, ◌-◌, ◌^◌, ◌∙◌, ap, length, nat_le, refl}
 use Rattle.std.proofs.Common.{subst, sym, Err}
-use Rattle.cb_desk.specs.declared.refusal.Refusal.TheVariants.{HistoryFull, OutOfMemory}
+use Rattle.cb_desk.specs.declared.change.Refusal.TheVariants.{HistoryFull, OutOfMemory}
 use Rattle.cb_desk.specs.Desk.{Counts, DeskState, scanned}
 use Rattle.cb_desk.specs.Models.{step_of}
 use Rattle.cb_desk.specs.Step.{after}

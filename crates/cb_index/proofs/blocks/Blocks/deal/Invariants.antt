@@ -1,6 +1,6 @@
 use Rattle.std.proofs.Common.{◌≡◌, ◌≤◌, ◌+◌, ◌*◌, ◌++◌, length, vec_capacity}
 use Rattle.std.specs.List.{AllByRecursion}
-use Rattle.cb_index.specs.declared.block.TheConstants.{HALF}
+use Rattle.cb_index.specs.declared.blocks.TheConstants.{HALF}
 use Rattle.cb_index.specs.Blocks.{IsFilled, joined}
 use Rattle.cb_index.proofs.blocks.Blocks.deal.Given as goal
 

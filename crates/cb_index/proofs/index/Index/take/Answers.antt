@@ -10,7 +10,7 @@ use Rattle.cb_index.specs.Kinds.{keyer_of, lister_of}
 use Rattle.cb_index.specs.Names.{AreSingle, is_among}
 use Rattle.cb_index.specs.declared.entry.Entry.{Entry}
 use Rattle.cb_index.specs.declared.entry.Shown.{Shown}
-use Rattle.cb_index.specs.declared.kind.IndexKind.{IndexKind}
+use Rattle.cb_index.specs.declared.entry.IndexKind.{IndexKind}
 use Rattle.cb_index.proofs.CoverLemmas.{apart_back, apart_single, covers_held, covers_unheld}
 use Rattle.cb_index.proofs.CoverLemmas.{covers_passed, covers_unwaited, none_waits}
 use Rattle.cb_index.proofs.KeptLemmas.{of_its_kind}
@@ -22,8 +22,8 @@ HasOnes a one es kind rest =
     es ≡ in_order (sort_key (keyer_of kind) a) (entries_of (lister_of kind) a one ++ rest)
 
 -- no two are pending under one number
-pub place_of-at-requires : goal.place_of-at-requires
-place_of-at-requires c =
+pub place_of_name-at-requires : goal.place_of_name-at-requires
+place_of_name-at-requires c =
     let x = c.args.self.now in
     let same : c.self.inside.pending.items ≡ x.pending =
     ap (λ (x : Indexed). x.pending) c.self.view_is in
@@ -40,7 +40,7 @@ take_all-requires c =
     let same : c.self.inside.pending.items ≡ x.pending =
     ap (λ (x : Indexed). x.pending) c.self.view_is in
     let at =
-    c.place_of-at.ensures.place ∙ ap (prefix_len (λ (s : Shown). not (nat_eq s.name one.name)))
+    c.place_of_name-at.ensures.place ∙ ap (prefix_len (λ (s : Shown). not (nat_eq s.name one.name)))
     (c.as_slice-pending.ensures.value ∙ same) in
     let counted : c.len.result ≡ length c.self.inside.pending.items = search rules in
     let none =
@@ -63,7 +63,7 @@ returns-then-has_few c =
     let same : c.self.inside.pending.items ≡ x.pending =
     ap (λ (x : Indexed). x.pending) c.self.view_is in
     let at =
-    c.place_of-at.ensures.place ∙ ap (prefix_len (λ (s : Shown). not (nat_eq s.name one.name)))
+    c.place_of_name-at.ensures.place ∙ ap (prefix_len (λ (s : Shown). not (nat_eq s.name one.name)))
     (c.as_slice-pending.ensures.value ∙ same) in
     let counted : c.len.result ≡ length c.self.inside.pending.items = search rules in
     let none =
@@ -93,7 +93,7 @@ returns-else-has_few c =
     let same : c.self.inside.pending.items ≡ x.pending =
     ap (λ (x : Indexed). x.pending) c.self.view_is in
     let at =
-    c.place_of-at.ensures.place ∙ ap (prefix_len (λ (s : Shown). not (nat_eq s.name one.name)))
+    c.place_of_name-at.ensures.place ∙ ap (prefix_len (λ (s : Shown). not (nat_eq s.name one.name)))
     (c.as_slice-pending.ensures.value ∙ same) in
     let counted : c.len.result ≡ length c.self.inside.pending.items = search rules in
     let none =
@@ -118,14 +118,14 @@ returns c =
     let same : c.self.inside.pending.items ≡ x.pending =
     ap (λ (x : Indexed). x.pending) c.self.view_is in
     let at =
-    c.place_of-at.ensures.place ∙ ap (prefix_len (λ (s : Shown). not (nat_eq s.name one.name)))
+    c.place_of_name-at.ensures.place ∙ ap (prefix_len (λ (s : Shown). not (nat_eq s.name one.name)))
     (c.as_slice-pending.ensures.value ∙ same) in
     let counted : c.len.result ≡ length c.self.inside.pending.items = search rules in
-    let within = c.place_of-at.ensures.bound in
+    let within = c.place_of_name-at.ensures.bound in
     let long = ap length (c.as_slice-pending.ensures.value ∙ same) in
     let counts = counted ∙ ap length same in
     let isnt = c.if-at-len.false in
-    let less : c.place_of-at.result < length x.pending =
+    let less : c.place_of_name-at.result < length x.pending =
     omega (arith, within, long, counts, isnt) in
     let left = c.remove-one.ensures.items ∙ (λ i. remove (same i) (at i)) in
     record {

@@ -4,7 +4,7 @@ use Rattle.cb_index.specs.Entries.{sort_key}
 use Rattle.cb_index.specs.Held.{all_entries}
 use Rattle.cb_index.specs.Kinds.{keyer_of, lister_of}
 use Rattle.cb_index.specs.steps.Found.{tag_at}
-use Rattle.cb_index.specs.declared.kind.IndexKind.TheVariants.{DefsByName}
+use Rattle.cb_index.specs.declared.entry.IndexKind.TheVariants.{DefsByName}
 use Rattle.cb_index.proofs.DefSearchLemmas.{all_asked}
 use Rattle.cb_index.proofs.RowLemmas.{rows_by_name}
 use Rattle.cb_index.proofs.shelf.Shelf.all_defs.Goals as goal

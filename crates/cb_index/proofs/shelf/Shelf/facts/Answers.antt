@@ -10,7 +10,7 @@ use Rattle.cb_index.specs.steps.Found.{facts_in}
 use Rattle.cb_index.specs.steps.Given.{given_in}
 use Rattle.cb_index.specs.steps.Searched.{searched_at, searched_count}
 use Rattle.cb_index.specs.declared.entry.Entry.{Entry}
-use Rattle.cb_index.specs.declared.kind.IndexKind.TheVariants.{Facts}
+use Rattle.cb_index.specs.declared.entry.IndexKind.TheVariants.{Facts}
 use Rattle.cb_index.proofs.CountLemmas.{facts_counted, facts_new}
 use Rattle.cb_index.proofs.FactLemmas.{rows_of_facts}
 use Rattle.cb_index.proofs.KeptLemmas.{all_held, in_its_order}

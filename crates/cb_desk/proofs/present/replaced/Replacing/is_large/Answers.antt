@@ -1,6 +1,6 @@
 use Rattle.std.proofs.Common.{rules, ◌≡◌, ◌∙◌, ap, length, map, nat_lt}
 use Rattle.cb_index.specs.Archived.{name_of}
-use Rattle.cb_desk.specs.declared.spot.NumberedPlace.{NumberedPlace}
+use Rattle.cb_desk.specs.declared.places.NumberedPlace.{NumberedPlace}
 use Rattle.cb_desk.specs.Marks.{marked_lines}
 use Rattle.cb_desk.specs.Replacement.{replaced_text}
 use Rattle.cb_desk.specs.steps.Replaced.{places_in}

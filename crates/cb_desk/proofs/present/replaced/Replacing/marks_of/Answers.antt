@@ -1,7 +1,7 @@
 use Rattle.std.proofs.Common.{◌≡◌, ◌∙◌, ap, sym, List, map, take, subst, nat_cmp}
 use Rattle.std.specs.List.{prefix_len}
 use Rattle.std.specs.List.Sorted.{IsStrictlySortedBy}
-use Rattle.cb_desk.specs.declared.spot.NumberedPlace.{NumberedPlace}
+use Rattle.cb_desk.specs.declared.places.NumberedPlace.{NumberedPlace}
 use Rattle.cb_desk.specs.steps.Replaced.{places_in}
 use Rattle.cb_desk.proofs.MarksFound.{is_here, lines_found, lines_rise}
 use Rattle.cb_desk.proofs.present.replaced.Replacing.marks_of.Goals as goal

@@ -1,0 +1,16 @@
+use Rattle.std.proofs.Common.{◌≡◌, ◌++◌, length}
+use Rattle.std.specs.List.{AllByRecursion}
+use Rattle.cb_index.specs.Files.{IsThere}
+use Rattle.cb_index.specs.steps.ShownIn.{shown_in}
+use Rattle.cb_desk.specs.steps.Records.{held_numbers}
+use Rattle.cb_desk.proofs.present.places.held_numbers.Given as goal
+
+abbrev pub invariant-loop-file : goal.invariant-loop-file
+invariant-loop-file l = record {
+  made : l.made.items ++ held_numbers l.archive l.text (shown_in l.rest)
+      ≡ held_numbers l.archive l.text (shown_in l.shown);
+  there : AllByRecursion (IsThere l.archive) (shown_in l.rest);
+}
+
+abbrev pub decreases-loop-file : goal.decreases-loop-file
+decreases-loop-file l = length (shown_in l.rest)

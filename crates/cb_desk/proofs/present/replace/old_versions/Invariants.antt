@@ -1,0 +1,6 @@
+use Rattle.std.proofs.Common.{◌≡◌, map, take}
+use Rattle.cb_desk.specs.steps.Replaced.{old_of}
+use Rattle.cb_desk.proofs.present.replace.old_versions.Given as goal
+
+abbrev pub invariant-loop-renewal : goal.invariant-loop-renewal
+invariant-loop-renewal l = l.made.items ≡ map old_of (take l.renewal-index l.renewals)

@@ -1,0 +1,26 @@
+use Rattle.std.proofs.Common.{◌∙◌, sym}
+use Rattle.std.specs.Cmp.Lexicographic.{slice_cmp}
+use Rattle.std.specs.Ordering.{nat_cmp, ordering_then}
+use Rattle.cb_index.specs.steps.Laying.{bytes_rank, rank}
+use Rattle.cb_index.proofs.links.compare.Goals as goal
+
+pub returns-in-Less : goal.returns-in-Less
+unfolding rank
+returns-in-Less c =
+    let text = c.args.text.now in
+    λ i. ordering_then ((sym c.in-Less.is ∙ c.cmp.ensures) i)
+    (slice_cmp nat_cmp (bytes_rank c.args.by c.args.sort text c.args.a)
+    (bytes_rank c.args.by c.args.sort text c.args.b))
+
+pub returns-in-Greater : goal.returns-in-Greater
+unfolding rank
+returns-in-Greater c =
+    let text = c.args.text.now in
+    λ i. ordering_then ((sym c.in-Greater.is ∙ c.cmp.ensures) i)
+    (slice_cmp nat_cmp (bytes_rank c.args.by c.args.sort text c.args.a)
+    (bytes_rank c.args.by c.args.sort text c.args.b))
+
+pub returns-in-Equal : goal.returns-in-Equal
+unfolding rank
+returns-in-Equal c =
+    λ i. ordering_then ((sym c.in-Equal.is ∙ c.cmp.ensures) i) (c.compare_keys.ensures i)

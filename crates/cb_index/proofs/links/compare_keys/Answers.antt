@@ -1,0 +1,38 @@
+use Rattle.std.proofs.Common.{◌∙◌, sym}
+use Rattle.std.specs.Cmp.Lexicographic.{slice_cmp}
+use Rattle.std.specs.Ordering.{nat_cmp, ordering_then}
+use Rattle.cb_index.specs.steps.Laying.{key_rest}
+use Rattle.cb_index.proofs.LayLemmas.{bytes_cmp}
+use Rattle.cb_index.proofs.links.compare_keys.Goals as goal
+
+pub returns-in-Less : goal.returns-in-Less
+returns-in-Less c =
+    let a = c.args.a in
+    let b = c.args.b in
+    let text = c.args.text.now in
+    (λ i. ordering_then ((sym c.in-Less.is ∙ c.cmp.ensures
+    ∙ (λ j. slice_cmp nat_cmp (c.key_of.ensures j) (c.key_of-2.ensures j))) i)
+    (slice_cmp nat_cmp (key_rest c.args.by c.args.sort text a)
+    (key_rest c.args.by c.args.sort text b)))
+    ∙ bytes_cmp c.args.by c.args.sort text a b
+
+pub returns-in-Greater : goal.returns-in-Greater
+returns-in-Greater c =
+    let a = c.args.a in
+    let b = c.args.b in
+    let text = c.args.text.now in
+    (λ i. ordering_then ((sym c.in-Greater.is ∙ c.cmp.ensures
+    ∙ (λ j. slice_cmp nat_cmp (c.key_of.ensures j) (c.key_of-2.ensures j))) i)
+    (slice_cmp nat_cmp (key_rest c.args.by c.args.sort text a)
+    (key_rest c.args.by c.args.sort text b)))
+    ∙ bytes_cmp c.args.by c.args.sort text a b
+
+pub returns-in-Equal : goal.returns-in-Equal
+returns-in-Equal c =
+    let a = c.args.a in
+    let b = c.args.b in
+    let text = c.args.text.now in
+    (λ i. ordering_then ((sym c.in-Equal.is ∙ c.cmp.ensures
+    ∙ (λ j. slice_cmp nat_cmp (c.key_of.ensures j) (c.key_of-2.ensures j))) i)
+    (c.compare_rest.ensures i))
+    ∙ bytes_cmp c.args.by c.args.sort text a b

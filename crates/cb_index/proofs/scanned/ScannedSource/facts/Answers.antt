@@ -1,6 +1,0 @@
-use Rattle.std.proofs.Common.{◌∙◌, ap}
-use Rattle.cb_index.specs.Scanned.{facts_of}
-use Rattle.cb_index.proofs.scanned.ScannedSource.facts.Goals as goal
-
-pub returns : goal.returns
-returns c = c.self.invariant ∙ ap facts_of c.self.view_is

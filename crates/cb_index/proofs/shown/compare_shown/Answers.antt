@@ -1,0 +1,34 @@
+use Rattle.std.proofs.Common.{◌∙◌, [], ◌∷◌, sym}
+use Rattle.std.specs.Cmp.Lexicographic.{slice_cmp}
+use Rattle.std.specs.Ordering.{nat_cmp, ordering_then}
+use Rattle.cb_index.proofs.ListedLemmas.{shown_cmp}
+use Rattle.cb_index.proofs.shown.compare_shown.Goals as goal
+
+pub returns-in-Less : goal.returns-in-Less
+returns-in-Less c =
+    let archive = c.args.archive.now in
+    let e = c.args.a in
+    let f = c.args.b in
+    (λ i. ordering_then ((sym c.in-Less.is ∙ c.compare_by_words.ensures
+    ∙ (λ j. slice_cmp nat_cmp (c.name.ensures j) (c.name-2.ensures j))) i)
+    (slice_cmp nat_cmp (e.name ∷ e.version ∷ []) (f.name ∷ f.version ∷ []))) ∙ shown_cmp archive e f
+
+pub returns-in-Greater : goal.returns-in-Greater
+returns-in-Greater c =
+    let archive = c.args.archive.now in
+    let e = c.args.a in
+    let f = c.args.b in
+    (λ i. ordering_then ((sym c.in-Greater.is ∙ c.compare_by_words.ensures
+    ∙ (λ j. slice_cmp nat_cmp (c.name.ensures j) (c.name-2.ensures j))) i)
+    (slice_cmp nat_cmp (e.name ∷ e.version ∷ []) (f.name ∷ f.version ∷ []))) ∙ shown_cmp archive e f
+
+pub returns-in-Equal : goal.returns-in-Equal
+returns-in-Equal c =
+    let archive = c.args.archive.now in
+    let e = c.args.a in
+    let f = c.args.b in
+    (λ i. ordering_then ((sym c.in-Equal.is ∙ c.compare_by_words.ensures
+    ∙ (λ j. slice_cmp nat_cmp (c.name.ensures j) (c.name-2.ensures j))) i)
+    ((c.cmp.ensures
+    ∙ (λ j. slice_cmp nat_cmp (c.numbers.ensures j) (c.numbers-in-Equal.ensures j))) i))
+    ∙ shown_cmp archive e f

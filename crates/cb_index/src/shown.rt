@@ -1,0 +1,453 @@
+//! The list of what is shown, by file name; what is asked of lists of versions under file names,
+//! and of numbers of names.
+ghost use Rattle.std.specs.Prelude.{
+  ◌≡◌,
+  ◌<◌,
+  ◌≤◌,
+  ◌+◌,
+  ◌*◌,
+  ◌&&◌,
+  ◌++◌,
+  ◌∷◌,
+  [],
+  ⊤,
+  MatchOption,
+  OnOk,
+  drop,
+  false,
+  filter,
+  length,
+  nat_eq,
+  nat_lt,
+  not,
+  take,
+  true,
+  vec_capacity,
+};
+ghost use Rattle.std.specs.Cmp.Lexicographic.{slice_cmp};
+ghost use Rattle.std.specs.List.{AllByRecursion, list_all, list_any, prefix_len};
+ghost use Rattle.std.specs.List.Sorted.{IsPartitionPoint, IsStrictlyIncreasing};
+ghost use Rattle.std.specs.Ordering.{is_gt, is_lt, nat_cmp};
+ghost use Rattle.std.specs.Str.{bytes_eq};
+ghost use Rattle.cb_scan.specs.Order.{in_order, put};
+ghost use Rattle.cb_index.specs.Archived.{name_of};
+ghost use Rattle.cb_index.specs.Blocks.{joined};
+ghost use Rattle.cb_index.specs.Compact.{shows_version};
+ghost use Rattle.cb_index.specs.Files.{
+  AreApart,
+  AreAscending,
+  IsThere,
+  is_shown,
+  shown_key,
+  shown_name,
+  shown_under,
+};
+ghost use Rattle.cb_index.specs.Names.{AreSingle, is_among, names_of};
+ghost use Rattle.cb_index.specs.declared.blocks.TheConstants.{HALF};
+ghost use Rattle.cb_index.specs.declared.entry.Shown.{Shown};
+ghost use Rattle.cb_index.specs.steps.Compact.{IsAmong};
+ghost use Rattle.cb_index.specs.steps.ShownIn.{shown_in};
+
+use crate::archive::{Archive, OutOfMemory, compare_by_words};
+use crate::blocks::{Block, Blocks, Bound, HALF, Place, place_of};
+use crate::entry::Shown;
+use crate::run::ShownFiles;
+use std::alloc::Global;
+use std::cmp::Ordering;
+use std::marker::Model;
+
+// ---- numbers of names
+
+/// Whether the number of each name is below that of the next, as `Shelf::hide_all` asks.
+pub fn are_rising(files: &[Shown]) -> bool
+    ensures { result ≡ true → IsStrictlyIncreasing (names_of files.now) }
+{
+    files.is_sorted_by(
+        |a: &Shown, b: &Shown| -> bool
+            ensures { result ≡ nat_lt a.now.name b.now.name }
+        { a.name < b.name },
+    )
+}
+
+/// Files by the numbers of their names, each below the next.
+#[derive(Clone, Copy)]
+pub(crate) struct Names<'a> {
+    pub(crate) files: &'a [Shown],
+    ghost rising: { IsStrictlyIncreasing (names_of files.now) },
+}
+
+impl<'a> Names<'a> {
+    /// Whether a number is that of one of the names, by binary search.
+    pub(crate) fn has(&self, number: u32) -> bool
+        ensures { result ≡ is_among (names_of self.now.files.now) number }
+    {
+        let files = self.files;
+        files
+            .binary_search_by(
+                |s: &Shown| -> Ordering
+                    ensures { result ≡ nat_cmp s.now.name number }
+                { s.name.cmp(&number) },
+            )
+            .is_ok()
+    }
+}
+
+// ---- files by name
+
+/// What stands behind the files whose names are below a name.
+#[derive(Clone, Copy)]
+pub(crate) struct BeforeName<'a, 'n> {
+    pub(crate) archive: &'a Archive,
+    pub(crate) name: &'n [u8],
+}
+
+impl<'a, 'n> Bound<Shown> for BeforeName<'a, 'n> {
+    ghost use Rattle.cb_index.specs.steps.Bounds.{is_below};
+
+    ghost is_ahead = { λ b. is_below b.archive.now b.name.now };
+
+    fn is_ahead(&self, one: Shown) -> bool {
+        self.archive.name(one.name).cmp(self.name) == Ordering::Less
+    }
+}
+
+/// What stands behind the files whose names are not above a name.
+#[derive(Clone, Copy)]
+pub(crate) struct AfterName<'a, 'n> {
+    pub(crate) archive: &'a Archive,
+    pub(crate) name: &'n [u8],
+}
+
+impl<'a, 'n> Bound<Shown> for AfterName<'a, 'n> {
+    ghost use Rattle.cb_index.specs.steps.Bounds.{is_up_to};
+
+    ghost is_ahead = { λ b. is_up_to b.archive.now b.name.now };
+
+    fn is_ahead(&self, one: Shown) -> bool {
+        self.archive.name(one.name).cmp(self.name) != Ordering::Greater
+    }
+}
+
+// ---- lists of versions
+
+fn numbers(shown: Shown) -> [u32; 2]
+    ensures { result ≡ shown.name ∷ shown.version ∷ [] }
+{
+    [shown.name, shown.version]
+}
+
+/// The order of two versions by file name, and then by their numbers.
+fn compare_shown(archive: &Archive, a: Shown, b: Shown) -> Ordering
+    ensures { result ≡ slice_cmp nat_cmp (shown_key archive.now a) (shown_key archive.now b) }
+{
+    match compare_by_words(archive.name(a.name), archive.name(b.name)) {
+        Ordering::Less => Ordering::Less,
+        Ordering::Greater => Ordering::Greater,
+        Ordering::Equal => numbers(a).cmp(&numbers(b)),
+    }
+}
+
+/// Puts versions in order by file name.
+fn sort_shown(archive: &Archive, shown: &mut [Shown])
+    requires { AreApart archive.now shown.old }
+    ensures { shown.new ≡ in_order (shown_name archive.now) shown.old }
+{
+    shown.sort_unstable_by(
+        |a: &Shown, b: &Shown| -> Ordering
+            ensures { result ≡ slice_cmp nat_cmp (shown_key archive.entry.now a.now)
+                (shown_key archive.entry.now b.now) }
+        { compare_shown(archive, *a, *b) },
+    );
+}
+
+/// Whether a file of this name is shown, by binary search.
+fn has_name(archive: &Archive, name: u32, shown: ShownFiles<'_>) -> bool
+    requires { AreAscending archive.now (shown_in shown) }
+    ensures { result ≡ list_any (λ (t : Shown). bytes_eq (name_of archive.now name)
+        (name_of archive.now t.name)) (shown_in shown.entry) }
+{
+    let name = archive.name(name);
+    match shown.from_name(archive, name).split_first() {
+        Some((one, _)) => name == archive.name(one.name),
+        None => false,
+    }
+}
+
+/// How many versions stand before the one under the number of a name; all where none does. A place
+/// where it is likely to stand is looked at first.
+pub(crate) fn place_of_name(name: u32, likely: usize, listed: &[Shown]) -> usize
+    requires { AreSingle listed.now }
+    ensures place { result ≡ prefix_len (λ (s : Shown). not (nat_eq s.name name)) listed.now }
+    ensures bound { result ≤ length listed.now }
+{
+    if likely < listed.len() && listed[likely].name == name {
+        return likely;
+    }
+    listed.iter().take_while(|s| s.name != name).count()
+}
+
+/// Whether a file of the name of one of these is shown.
+pub(crate) fn has_any_name(archive: &Archive, news: &[Shown], shown: ShownFiles<'_>) -> bool
+    requires { AreAscending archive.now (shown_in shown) }
+    ensures { result ≡ list_any (is_shown archive.now (shown_in shown.entry)) news.now }
+{
+    for one in news {
+        if has_name(archive, one.name, shown) {
+            return true;
+        }
+    }
+    false
+}
+
+/// Whether the numbers of these are below the counts of names and versions.
+fn are_below(archive: &Archive, news: &[Shown]) -> bool
+    ensures { result ≡ list_all (λ (s : Shown). nat_lt s.name (length archive.now.names)
+        && nat_lt s.version (length archive.now.texts)) news.now }
+{
+    news.iter().all(|s| {
+        (s.name as usize) < archive.name_count() && (s.version as usize) < archive.version_count()
+    })
+}
+
+/// Whether the names and versions of these are there.
+pub(crate) fn are_there(archive: &Archive, news: &[Shown]) -> bool
+    ensures there { result ≡ true → AllByRecursion (IsThere archive.now) news.now }
+    ensures missing { AllByRecursion (IsThere archive.now) news.now → result ≡ true }
+{
+    are_below(archive, news)
+}
+
+/// Whether the file names of these ascend, so that no two of them have one.
+pub(crate) fn ascend(archive: &Archive, news: &[Shown]) -> bool
+    ensures apart { result ≡ true → AreApart archive.now news.now }
+    ensures ascending { AreAscending archive.now news.now → result ≡ true }
+{
+    news.is_sorted_by(
+        |s: &Shown, t: &Shown| -> bool
+            ensures { result ≡ is_lt (slice_cmp nat_cmp (name_of archive.entry.now s.now.name)
+                (name_of archive.entry.now t.now.name)) }
+        { archive.name(s.name).cmp(archive.name(t.name)) == Ordering::Less },
+    )
+}
+
+// ---- all that is shown
+
+/// What is shown, by file name, in blocks, so that a file that comes or goes moves the others of
+/// one block. A second list has room for all; there they are sorted where many come in at once.
+/// Only `reserve` takes memory.
+#[derive(Drop)]
+pub(crate) struct ShownList {
+    blocks: Blocks<Shown>,
+    scratch: Vec<Shown>,
+}
+
+impl Model for ShownList {
+    ghost use Rattle.std.specs.Prelude.{◌≤◌, ◌*◌, min, length, vec_capacity};
+    ghost use Rattle.cb_index.specs.Blocks.{joined};
+    ghost use Rattle.cb_index.specs.Files.{Listing};
+    ghost use Rattle.cb_index.specs.declared.blocks.TheConstants.{HALF};
+
+    ghost Value = { Listing };
+
+    ghost view = { λ s. record {
+      files = joined s.blocks.used;
+      room = min (vec_capacity s.scratch) (HALF * s.blocks.count);
+    } };
+
+    ghost invariant = { λ s. (length (joined s.blocks.used) ≤ vec_capacity s.scratch)
+        × (length (joined s.blocks.used) ≤ HALF * s.blocks.count) };
+}
+
+/// Puts a version among the others, by file name; not where a block is wanted and none is left.
+fn try_put(archive: &Archive, one: Shown, blocks: &mut Blocks<Shown>) -> bool
+    requires { AreAscending archive.now (joined blocks.old.used) }
+    ensures put { result ≡ true → joined blocks.new.used
+        ≡ put (shown_name archive.now) one (joined blocks.old.used) }
+    ensures stays { result ≡ false → blocks.new.used ≡ blocks.old.used }
+    ensures count { blocks.new.count ≡ blocks.old.count }
+{
+    let bound = BeforeName {
+        archive,
+        name: archive.name(one.name),
+    };
+    let place = place_of(&bound, blocks.used());
+    blocks.try_insert(place, one)
+}
+
+/// What stands at a place, if it is there.
+fn at_place(place: Place, blocks: &[Block<Shown>]) -> Option<Shown>
+    ensures { MatchOption result ⊤ (λ s. IsAmong (joined blocks.now) s) }
+{
+    if place.block >= blocks.len() {
+        return None;
+    }
+    let items = blocks[place.block].items();
+    if place.at >= items.len() {
+        return None;
+    }
+    Some(items[place.at])
+}
+
+/// Notes in an archive where each version of a block stands.
+fn note_block(block: usize, shown: &[Shown], archive: &mut Archive)
+    ensures { archive.new ≡ archive.old }
+{
+    for (at, one) in shown.iter().enumerate() {
+        archive.note_place(one.version, Place { block, at });
+    }
+}
+
+/// Takes what is shown under the number of a name away. It is looked for by its file name.
+fn take(archive: &Archive, name: u32, blocks: &mut Blocks<Shown>) -> Option<Shown>
+    requires { AreAscending archive.now (joined blocks.old.used) }
+    ensures value { result ≡ shown_under name (joined blocks.old.used) }
+    ensures files { joined blocks.new.used
+        ≡ filter (λ (s : Shown). not (nat_eq s.name name)) (joined blocks.old.used) }
+    ensures count { blocks.new.count ≡ blocks.old.count }
+{
+    let bound = AfterName {
+        archive,
+        name: archive.name(name),
+    };
+    let used = blocks.used();
+    let place = place_of(&bound, used);
+    if place.at == 0 {
+        return None;
+    }
+    let one = used[place.block].items()[place.at - 1];
+    if one.name != name {
+        return None;
+    }
+    blocks.remove(Place {
+        block: place.block,
+        at: place.at - 1,
+    });
+    Some(one)
+}
+
+impl ShownList {
+    /// A list of nothing. It takes no memory.
+    pub(crate) fn new(alloc: Global) -> ShownList
+        ensures { result.files ≡ [] }
+    {
+        ShownList {
+            blocks: Blocks::new(alloc),
+            scratch: Vec::new(alloc),
+        }
+    }
+
+    /// Makes room for `n` versions in all. What is listed stays, also where memory is refused.
+    pub(crate) fn reserve(&mut self, n: u32) -> Result<(), OutOfMemory>
+        ensures ok { OnOk result (n ≤ self.new.room) }
+        ensures files { self.new.files ≡ self.old.files }
+        ensures room { self.old.room ≤ self.new.room }
+    {
+        match self.blocks.reserve(n as usize / HALF + 1) {
+            Ok(()) => {}
+            Err(_) => return Err(OutOfMemory),
+        }
+        self.scratch.truncate(0);
+        match self.scratch.reserve(n as usize) {
+            Ok(()) => Ok(()),
+            Err(_) => Err(OutOfMemory),
+        }
+    }
+
+    /// What is listed.
+    pub(crate) fn files(&self) -> ShownFiles<'_>
+        ensures { shown_in result ≡ self.now.files }
+    {
+        let _room = self.scratch.capacity();
+        ShownFiles::whole(self.blocks.used())
+    }
+
+    /// A file that shows a version, if one does. It is looked for first where it is likely to
+    /// stand.
+    pub(crate) fn with_version(&self, version: usize, likely: Place) -> Option<Shown>
+        ensures { MatchOption result (shows_version version self.now.files ≡ false)
+            (λ s. (s.version ≡ version) × IsAmong self.now.files s) }
+    {
+        if let Some(one) = at_place(likely, self.blocks.used())
+            && one.version as usize == version
+        {
+            return Some(one);
+        }
+        self.files().with_version(version)
+    }
+
+    /// Notes in an archive where each version stands.
+    pub(crate) fn note_places(&self, archive: &mut Archive)
+        ensures { archive.new ≡ archive.old }
+    {
+        for (block, shown) in self.blocks.used().iter().enumerate() {
+            note_block(block, shown.items(), archive);
+        }
+    }
+
+    /// Puts versions among the others: one at its place, more by one sort. No two of them have one
+    /// file name. It takes no memory.
+    pub(crate) fn put_all(&mut self, archive: &Archive, news: &[Shown])
+        requires ascending { AreAscending archive.now self.old.files }
+        requires apart { AreApart archive.now (self.old.files ++ news.now) }
+        requires room { length self.old.files + length news.now ≤ self.old.room }
+        ensures files { self.new.files
+            ≡ in_order (shown_name archive.now) (self.old.files ++ news.now) }
+        ensures room { self.old.room ≤ self.new.room }
+    {
+        if news.is_empty() {
+            return;
+        }
+        if let [one] = news
+            && try_put(archive, *one, &mut self.blocks)
+        {
+            return;
+        }
+        self.sort_with(archive, news);
+    }
+
+    /// Puts versions among the others by one sort.
+    fn sort_with(&mut self, archive: &Archive, news: &[Shown])
+        requires apart { AreApart archive.now (self.old.files ++ news.now) }
+        requires room { length self.old.files + length news.now ≤ self.old.room }
+        ensures files { self.new.files
+            ≡ in_order (shown_name archive.now) (self.old.files ++ news.now) }
+        ensures room { self.old.room ≤ self.new.room }
+    {
+        self.scratch.truncate(0);
+        self.blocks.lift(&mut self.scratch);
+        if self.scratch.extend_from_slice(news).is_err() {
+            unreachable!()
+        }
+        sort_shown(archive, self.scratch.as_mut_slice());
+        self.blocks.deal(self.scratch.as_slice());
+    }
+
+    /// Takes what is shown under the number of a name away. It takes no memory.
+    pub(crate) fn take_under(&mut self, archive: &Archive, name: u32) -> Option<Shown>
+        requires { AreAscending archive.now self.old.files }
+        ensures value { result ≡ shown_under name self.old.files }
+        ensures files { self.new.files
+            ≡ filter (λ (s : Shown). not (nat_eq s.name name)) self.old.files }
+        ensures room { self.old.room ≤ self.new.room }
+    {
+        take(archive, name, &mut self.blocks)
+    }
+
+    /// Takes away what is shown under the names of many files, in one pass. It takes no memory.
+    pub(crate) fn take_names(&mut self, files: &[Shown])
+        requires { IsStrictlyIncreasing (names_of files.now) }
+        ensures files { self.new.files
+            ≡ filter (λ (s : Shown). not (is_among (names_of files.now) s.name)) self.old.files }
+        ensures room { self.old.room ≤ self.new.room }
+    {
+        self.scratch.truncate(0);
+        self.blocks.lift(&mut self.scratch);
+        let names = Names { files };
+        self.scratch.retain(
+            |s: &Shown| -> bool
+                ensures { result ≡ not (is_among (names_of names.entry.files.now) s.now.name) }
+            { !names.has(s.name) },
+        );
+        self.blocks.deal(self.scratch.as_slice());
+    }
+}
