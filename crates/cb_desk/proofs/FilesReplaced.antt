@@ -44,16 +44,6 @@ none_in name (m ∷ marks) none =
 filled : (n : ℕ) → not (suc n == 0) ≡ true
 filled n = grind arith
 
--- a file has a mark if there is a marked line
-pub marked_any : (name : List ℕ) (marks : List Place)
-    → not (length (marked_lines name marks) == 0) ≡ list_any (is_in name) marks
-marked_any name [] = refl
-marked_any name (m ∷ marks) =
-    elim (is_in name m) as (λ b. not (length (map (λ (p : Place). p.line)
-    (cond b (m ∷ filter (is_in name) marks) (filter (is_in name) marks))) == 0)
-    ≡ b || list_any (is_in name) marks)
-    [ true ↦ filled (length (marked_lines name marks)) | false ↦ marked_any name marks ]
-
 pub unmarked_file : (old new : List ℕ) (marks : List Place) (f : File) → is_marked marks f ≡ false
     → replaced_file old new marks f ≡ f
 unmarked_file old new marks f none =

@@ -28,11 +28,6 @@ all-take P zero xs all = tt
 all-take P (suc n) [] all = tt
 all-take P (suc n) (x ∷ xs) all = (all.0, all-take P n xs all.1)
 
-all-middle : {X : Type 0} (P : X → Type 0) (xs : List X) (y : X) (zs : List X)
-    → AllByRecursion P (xs ++ y ∷ zs) → P y
-all-middle P [] y zs all = all.0
-all-middle P (x ∷ xs) y zs all = all-middle P xs y zs all.1
-
 -- where none of the first rows is equal, an equal one is among the others
 any-behind : (q : AnswerRow) (rows : List AnswerRow) (n : ℕ)
     → AllByRecursion (λ r. row_eq q r ≡ false) (take n rows)

@@ -226,20 +226,6 @@ module _ (k : Kept) (p : Planned) (wanted : Option (Option (List ℕ))) (marks f
         (with_places k.archive k.now wanted marks frames) a) (sym turn) (leads a keeps),
   )
 
--- what is taken of places that are below a number is
-pub below_taken : (names n : ℕ) (ps : List NumberedPlace)
-    → AllByRecursion (λ (p : NumberedPlace). p.name < names) ps
-    → AllByRecursion (λ (p : NumberedPlace). p.name < names) (take n ps)
-below_taken names zero ps all = tt
-below_taken names (suc n) [] all = tt
-below_taken names (suc n) (p ∷ ps) all = (all.0, below_taken names n ps all.1)
-
-pub below_pushed : (names : ℕ) (p : NumberedPlace) (ps : List NumberedPlace) → p.name < names
-    → AllByRecursion (λ (q : NumberedPlace). q.name < names) ps
-    → AllByRecursion (λ (q : NumberedPlace). q.name < names) (ps ++ p ∷ [])
-below_pushed names p [] here all = (here, tt)
-below_pushed names p (q ∷ ps) here all = (all.0, below_pushed names p ps here all.1)
-
 -- the world without its top frame
 module _ (a : Archived) where
   taken_places : (n : ℕ) (ps : List NumberedPlace)

@@ -2,7 +2,7 @@
 use Rattle.std.proofs.Common.{◌≡◌, ◌∙◌, sym, ap, refl, ℕ, suc, Bool, true, false, not, ◌||◌, cond}
 use Rattle.std.proofs.Common.{List, [], ◌∷◌, ◌++◌, filter, map, take, drop, length, count_by}
 use Rattle.std.proofs.Common.{insert, nat_cmp, is_lt, Ordering, Less, Equal, Greater}
-use Rattle.std.specs.List.{AllByRecursion, AllZip, list_any}
+use Rattle.std.specs.List.{AllByRecursion, list_any}
 use Rattle.std.proofs.lemmas.List.{map-append, take-map, drop-map}
 use Rattle.std.specs.List.Sorted.{IsStrictlySortedBy}
 use Rattle.std.specs.Cmp.Lexicographic.{slice_cmp}
@@ -90,14 +90,6 @@ pub map-insert : {X Y : Type 0} (h : X → Y) (xs : List X) (i : ℕ) (x : X)
 map-insert h xs i x =
     map-append h (take i xs) (x ∷ drop i xs) ∙ rw (take-map h i xs, drop-map h i xs) refl
 
--- lists whose elements agree in h are equal through h
-pub map-same : {X Y : Type 0} (h : X → Y) (xs ys : List X) → AllZip (λ x y. h y ≡ h x) xs ys
-    → map h ys ≡ map h xs
-map-same h [] [] same = refl
-map-same h (x ∷ xs) [] same = absurd same
-map-same h [] (y ∷ ys) same = absurd same
-map-same h (x ∷ xs) (y ∷ ys) same = cc (same.0, map-same h xs ys same.1)
-
 -- files with one more at its place
 pub placed : {X : Type 0} (h : X → File) (x : X) (xs : List X) (n : ℕ) → IsAscending (map h xs) → n
     ≡ count_by (λ a. is_before (h x) (h a)) xs → map h (insert xs n x) ≡ with_file (h x) (map h xs)
@@ -107,10 +99,3 @@ placed h x xs n up place =
     ∙ length-filter-map (is_before (h x)) h xs in
     map-insert h xs n x ∙ ap (λ m. insert (map h xs) m (h x)) counted
     ∙ insert-placed (h x) (map h xs) up
-
--- equal elements make equal lists
-pub list-same : {X : Type 0} (xs ys : List X) → AllZip (λ x y. y ≡ x) xs ys → ys ≡ xs
-list-same [] [] same = refl
-list-same (x ∷ xs) [] same = absurd same
-list-same [] (y ∷ ys) same = absurd same
-list-same (x ∷ xs) (y ∷ ys) same = cc (same.0, list-same xs ys same.1)

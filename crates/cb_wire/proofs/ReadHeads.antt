@@ -1,17 +1,14 @@
 -- A head that is read byte by byte is the head of the stream.
 use Rattle.std.proofs.Common.{◌≡◌, ◌≢◌, ℕ, suc, ◌+◌, ◌-◌, ◌<◌, ◌≤◌, List, [], ◌∷◌, ◌++◌, length}
-use Rattle.std.proofs.Common.{Some, None, Ok, Err, refl, sym, ap, ◌∙◌, arith}
+use Rattle.std.proofs.Common.{Some, None, Ok, refl, sym, ap, ◌∙◌, arith}
 use Rattle.std.proofs.Common.{append_assoc, append-nil, length-append}
-use Rattle.cb_tags.specs.declared.feed.ReadFault.{ReadFault}
 use Rattle.cb_tags.specs.Readers.{Reader, GivesByte, HasRead, WhateverFollows}
-use Rattle.cb_tags.proofs.Follows.{HasRead-byte, HasRead-nothing, HasRead-trans, Follows-ended}
-use Rattle.cb_tags.proofs.Follows.{Follows-failed}
+use Rattle.cb_tags.proofs.Follows.{HasRead-byte, HasRead-trans, Follows-ended}
 use Rattle.cb_wire.specs.declared.head.TheConstants.{MOST_HEAD}
 use Rattle.cb_wire.specs.declared.head.Line.{Line}
-use Rattle.cb_wire.specs.declared.head.Line.TheVariants.{Start}
 use Rattle.cb_wire.specs.declared.head.Step.{Step}
 use Rattle.cb_wire.specs.declared.head.Step.TheVariants.{On, End, Bad}
-use Rattle.cb_wire.specs.declared.head.HeadRead.TheVariants.{End as AtEnd, Ended as EndedInside}
+use Rattle.cb_wire.specs.declared.head.HeadRead.TheVariants.{Ended as EndedInside}
 use Rattle.cb_wire.specs.declared.head.HeadRead.TheVariants.{Bad as NoHead, Whole}
 use Rattle.cb_wire.specs.Heads.{Head, head, head_after, head_from, next}
 use Rattle.cb_wire.specs.steps.ReadHeads.{EndsKnown, ReadsHead}
@@ -21,10 +18,6 @@ pub record Kept (old new : Reader) (line : Line) (kept : List ℕ) (read : ℕ) 
   pub taken : HasRead old new kept
   pub count : length kept ≡ read
   pub more : (rest : List ℕ) → head (kept ++ rest) ≡ head_from (MOST_HEAD - read) line kept rest
-
-pub Kept-nothing : (feed : Reader) → Kept feed feed Start [] 0
-Kept-nothing feed =
-    record { taken = HasRead-nothing feed; count = refl; more = λ rest. refl }
 
 -- a byte more
 step : (old mid : Reader) (line : Line) (kept : List ℕ) (read b : ℕ) → Kept old mid line kept read
@@ -106,12 +99,6 @@ module _ (old mid new : Reader) (line : Line) (kept : List ℕ) (read : ℕ)
     no_bytes [] h = refl
     no_bytes (x ∷ xs) h = absurd (omega arith)
 
-    pub head-none : read ≡ 0
-        → WhateverFollows old new (λ bytes left. ReadsHead bytes left kept (Ok AtEnd))
-    head-none z =
-        Follows-ended old mid new kept (λ bytes left. ReadsHead bytes left kept (Ok AtEnd)) k.taken
-        gives (no_bytes kept (k.count ∙ z), refl)
-
     pub head-ended : read ≢ 0 → read < MOST_HEAD
         → WhateverFollows old new (λ bytes left. ReadsHead bytes left kept (Ok EndedInside))
     unfolding head_from
@@ -123,11 +110,3 @@ module _ (old mid new : Reader) (line : Line) (kept : List ℕ) (read : ℕ)
           ap head (sym (append-nil kept)) ∙ k.more []
               ∙ ap (λ n. head_from n line kept []) left,
         )
-
--- a fault
-pub head-failed : (old mid new : Reader) (line : Line) (kept now : List ℕ) (read : ℕ)
-    (fault e : ReadFault) → Kept old mid line kept read → GivesByte mid new (Err fault)
-    → WhateverFollows old new (λ bytes left. ReadsHead bytes left now (Err e))
-head-failed old mid new line kept now read fault e k gives =
-    Follows-failed old mid new kept fault (λ bytes left. ReadsHead bytes left now (Err e)) k.taken
-    gives (λ bytes left failed. failed)

@@ -16,10 +16,6 @@ size-some : (o : Option ℕ) (n : ℕ) → 1 ≤ n → 1 ≤ sequence_size o n
 size-some None n p = omega arith
 size-some (Some c) n p = p
 
-size-within : (o : Option ℕ) (n m : ℕ) → 1 ≤ m → n ≤ m → sequence_size o n ≤ m
-size-within None n m p q = p
-size-within (Some c) n m p q = q
-
 fuel : (n m : ℕ) (bytes : List ℕ) → length bytes ≤ n → length bytes ≤ m
     → readable_from n bytes ≡ readable_from m bytes
 unfolding readable_from

@@ -21,7 +21,7 @@ use Rattle.cb_tags.proofs.Follows.{Some-same}
 use Rattle.cb_wire.specs.Uris.{Below, IsRoot, IsBelow, after, after_slash, begins_with_slash}
 use Rattle.cb_wire.specs.Uris.{escaped, escape_byte, escaped_path, if_path, is_kept, last_slashes}
 use Rattle.cb_wire.specs.Uris.{name_below, of_folder, of_uri, on_this_host, path_below, path_of}
-use Rattle.cb_wire.specs.Uris.{slash, uri_of, without_slashes}
+use Rattle.cb_wire.specs.Uris.{slash, uri_of}
 
 -- a slash is no part of an escape
 decode-slash : (xs ys : List ℕ) → percent_decode (xs ++ 47 ∷ ys)
@@ -95,8 +95,6 @@ slash-or-nothing (suc n) (b ∷ bs) rest p = ⊎_elim
 
 -- the root of a folder is one
 module _ (folder : List ℕ) (small : All IsByte folder) (absolute : begins_with_slash folder ≡ true) where
-  folder-path : List ℕ
-  folder-path = without_slashes (last_slashes folder) folder
 
   pub folder_is_root : IsRoot (of_folder folder)
   folder_is_root =

@@ -104,27 +104,6 @@ goes job t feed feed' out (Unreadable place) None writes reached makes same = ab
 goes job t feed feed' out Unlisted (Some file) writes reached makes same = absurd makes.1
 goes job t feed feed' out Unlisted None writes reached makes same = absurd makes
 
--- a job that writes a tags file, and one over the input and the output
-pub into_file : (job : Job) (s : State) (feed feed' : Reader) (out : Writer) (f : Finish)
-    (file : Option Writer) → writes_file job ≡ true
-    → MakesFile (file_text job s.timeline.present) file f → feed' ≡ feed
-    → DoesFrom s job feed feed' out out f file
-into_file job s feed feed' out f file writes makes same =
-    subst (λ b. DoesInto b s job feed feed' out out f file) (sym writes) (makes, (same, refl))
-
-pub over_both : (job : Job) (lines limit : ℕ) (s : State) (feed feed' : Reader)
-    (out out' : Writer) (end : Finish) → lines ≡ most_lines
-    → limit ≡ most_line_bytes (bounds_of job) → writes_file job ≡ false
-    → DoesJob any_finding job lines limit s feed feed' out out' end
-    → DoesFrom s job feed feed' out out' end None
-over_both job lines limit s feed feed' out out' end all most writes does =
-    let most_of = most_line_bytes (bounds_of job) in
-    subst (λ b. DoesInto b s job feed feed' out out' end None) (sym writes) (
-      subst (λ n. DoesJob any_finding job n most_of s feed feed' out out' end) all
-          (subst (λ m. DoesJob any_finding job lines m s feed feed' out out' end) most does),
-      refl,
-    )
-
 -- a job that is done has run
 abbrev HasRun : Finish → Type 0
 HasRun (Ran ended) = Unit {0}
