@@ -1,33 +1,10 @@
 //! What a change does to a list of places, kept so that it can be taken back and done again: place
 //! by place, or in its shortest form.
-ghost use Rattle.std.specs.Prelude.{
-  ◌≡◌,
-  ◌≤◌,
-  ◌+◌,
-  ◌-◌,
-  ◌++◌,
-  ◌∷◌,
-  [],
-  IfOk,
-  MatchOption,
-  drop,
-  false,
-  length,
-  take,
-  vec_capacity,
-};
-ghost use Rattle.cb_desk.specs.steps.Edits.{
-  IsDifference,
-  IsEachDifference,
-  IsFirstStep,
-  each,
-  edited,
-  edited_each,
-  more,
-  turned_each,
-  turned_edit,
-  turned_edits,
-};
+ghost use Rattle.std.specs.Prelude.{◌≡◌, ◌≤◌, ◌+◌, ◌-◌, ◌++◌, ◌∷◌, [], IfOk, MatchOption, drop};
+ghost use Rattle.std.specs.Prelude.{false, length, take, vec_capacity};
+ghost use Rattle.cb_desk.specs.steps.Edits.{IsDifference, IsEachDifference, IsFirstStep, each};
+ghost use Rattle.cb_desk.specs.steps.Edits.{edited, edited_each, more, turned_each, turned_edit};
+ghost use Rattle.cb_desk.specs.steps.Edits.{turned_edits};
 ghost use Rattle.cb_desk.specs.steps.Renamings.{LeadsBetween, is_renaming, renaming_between};
 
 use crate::places::NumberedPlace;

@@ -1,16 +1,6 @@
 //! The present world, and the records that lead back and on from it.
-ghost use Rattle.std.specs.Prelude.{
-  ◌≡◌,
-  ◌<◌,
-  [],
-  ◌∷◌,
-  ⊤,
-  length,
-  nat_le,
-  MatchOption,
-  MatchResult,
-  OnOk,
-};
+ghost use Rattle.std.specs.Prelude.{◌≡◌, ◌<◌, [], ◌∷◌, ⊤, length, nat_le, MatchOption, MatchResult};
+ghost use Rattle.std.specs.Prelude.{OnOk};
 ghost use Rattle.std.specs.Option.{option_map};
 ghost use Rattle.cb_desk.specs.Desk.{counted};
 ghost use Rattle.cb_desk.specs.Models.{step_of};
@@ -20,15 +10,8 @@ ghost use Rattle.cb_desk.specs.steps.Records.{moves, place_in, world_in};
 ghost use Rattle.cb_desk.specs.steps.Still.{AreStill};
 ghost use Rattle.cb_desk.specs.World.{World, IsValidWorld};
 ghost use Rattle.cb_desk.specs.steps.Plans.{IsPlan};
-ghost use Rattle.cb_desk.specs.Timeline.{
-  IsValidTimeline,
-  Moves,
-  forgotten,
-  moved_on,
-  new_timeline,
-  redone,
-  undone,
-};
+ghost use Rattle.cb_desk.specs.Timeline.{IsValidTimeline, Moves, forgotten, moved_on, new_timeline};
+ghost use Rattle.cb_desk.specs.Timeline.{redone, undone};
 ghost use Rattle.cb_desk.specs.Turns.{Turns};
 ghost use Rattle.cb_desk.specs.steps.Walks.{IsKept, next_moves, timeline_in, turns_on};
 

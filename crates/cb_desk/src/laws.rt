@@ -1,11 +1,6 @@
 //! What follows from the definitions alone: no code runs here.
-ghost use Rattle.cb_desk.specs.Laws.{
-  AreLimits,
-  UndoTakesBack,
-  RedoTakesBack,
-  StepKeepsValid,
-  TimelineStaysValid,
-};
+ghost use Rattle.cb_desk.specs.Laws.{AreLimits, UndoTakesBack, RedoTakesBack, StepKeepsValid};
+ghost use Rattle.cb_desk.specs.Laws.{TimelineStaysValid};
 ghost use Rattle.cb_desk.specs.Replacement.{HasOneCut};
 ghost use Rattle.cb_desk.specs.Survivors.{TimelineIsReplayed};
 

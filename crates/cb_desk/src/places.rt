@@ -1,6 +1,6 @@
 //! Places of a world: lines of files, as marks and as frames of the tag stack. In memory they are
 //! numbers, with room to write what edits make of them.
-ghost use Rattle.std.specs.Prelude.{◌≡◌, ◌≤◌, ◌+◌, ◌++◌, ◌∷◌, [], IfErr, OnOk, length, map};
+ghost use Rattle.std.specs.Prelude.{◌≡◌, ◌≤◌, ◌+◌, [], OnOk, length, map};
 ghost use Rattle.std.specs.Iterator.{YieldsFirstBy, YieldsLastBy, item_count};
 ghost use Rattle.cb_desk.specs.Models.{place_at};
 ghost use Rattle.cb_desk.specs.steps.Edits.{edited};

@@ -1,36 +1,14 @@
 //! What a change brings and does, before anything moves: texts as versions, which are scanned and
 //! counted, and what leads from one world to another.
-ghost use Rattle.std.specs.Prelude.{
-  ◌≡◌,
-  ◌<◌,
-  ◌≤◌,
-  ◌+◌,
-  ◌^◌,
-  ◌++◌,
-  ◌∷◌,
-  [],
-  IfOk,
-  MatchOption,
-  MatchResult,
-  length,
-  map,
-  slice_get,
-  slice_index_or,
-  take,
-};
+ghost use Rattle.std.specs.Prelude.{◌≡◌, ◌<◌, ◌≤◌, ◌+◌, ◌^◌, ◌++◌, ◌∷◌, [], IfOk, MatchOption};
+ghost use Rattle.std.specs.Prelude.{MatchResult, length, map, slice_get, slice_index_or, take};
 ghost use Rattle.std.specs.Option.{option_copied, option_map};
 ghost use Rattle.cb_scan.specs.Profiles.{facts_in};
 ghost use Rattle.cb_index.specs.Shelved.{KeepsRoom};
 ghost use Rattle.cb_desk.specs.Desk.{CountsUpTo};
 ghost use Rattle.cb_desk.specs.declared.bounds.TheConstants.{MOST_BYTES};
-ghost use Rattle.cb_desk.specs.steps.Room.{
-  AreCounted,
-  AreMore,
-  AreTooMany,
-  fact_count,
-  facts_with,
-  with_texts,
-};
+ghost use Rattle.cb_desk.specs.steps.Room.{AreCounted, AreMore, AreTooMany, fact_count, facts_with};
+ghost use Rattle.cb_desk.specs.steps.Room.{with_texts};
 
 use crate::edits::PlaceEdits;
 use cb_index::{Archive, Links, Shelf, Shown, Totals, Version};
@@ -253,7 +231,7 @@ pub(crate) struct Record {
 
 impl Model for Record {
     ghost use Rattle.cb_desk.specs.steps.Records.{Turn};
-    ghost use Rattle.cb_desk.specs.steps.Texts.{bytes_if, bytes_if_other};
+    ghost use Rattle.cb_desk.specs.steps.Texts.{bytes_if_other};
 
     ghost Value = { Turn };
 

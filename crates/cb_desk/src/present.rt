@@ -1,18 +1,7 @@
 //! The present world in memory, in the numbers of an archive, and what is read of it. No reader
 //! takes memory.
-ghost use Rattle.std.specs.Prelude.{
-  ◌≡◌,
-  ◌≤◌,
-  ◌+◌,
-  ◌^◌,
-  ◌++◌,
-  [],
-  MatchOption,
-  OnOk,
-  length,
-  map,
-  take,
-};
+ghost use Rattle.std.specs.Prelude.{◌≡◌, ◌≤◌, ◌+◌, ◌^◌, ◌++◌, [], MatchOption, OnOk, length, map};
+ghost use Rattle.std.specs.Prelude.{take};
 ghost use Rattle.std.specs.List.Sorted.{IsStrictlyIncreasing};
 ghost use Rattle.std.specs.Option.{option_copied};
 ghost use Rattle.cb_scan.specs.Order.{in_order};
@@ -23,22 +12,10 @@ ghost use Rattle.cb_desk.specs.Desk.{counted};
 ghost use Rattle.cb_desk.specs.steps.Compacted.{IsCompacted};
 ghost use Rattle.cb_desk.specs.steps.Edits.{edited, turned_edits};
 ghost use Rattle.cb_desk.specs.steps.Plans.{HasRoomFor};
-ghost use Rattle.cb_desk.specs.steps.Records.{
-  AreThere,
-  Fits,
-  IsTurn,
-  KeepsRooms,
-  hidden,
-  kept_wanted,
-  no_numbers,
-  other,
-  other_wanted,
-  place_in,
-  turned,
-  without,
-};
+ghost use Rattle.cb_desk.specs.steps.Records.{AreThere, Fits, IsTurn, KeepsRooms, hidden};
+ghost use Rattle.cb_desk.specs.steps.Records.{kept_wanted, no_numbers, other, other_wanted};
+ghost use Rattle.cb_desk.specs.steps.Records.{place_in, turned, without};
 ghost use Rattle.cb_desk.specs.steps.Room.{IsCountable, IsRoomFor};
-ghost use Rattle.cb_desk.specs.steps.Still.{IsStill};
 ghost use Rattle.cb_desk.specs.steps.Texts.{bytes_if, bytes_if_other};
 ghost use Rattle.cb_desk.specs.steps.Walks.{IsKept};
 

@@ -1,26 +1,9 @@
 //! Places of a file that gets another number.
-ghost use Rattle.std.specs.Prelude.{
-  ◌≡◌,
-  ◌≤◌,
-  ◌+◌,
-  ◌++◌,
-  ◌↔◌,
-  length,
-  drop,
-  map,
-  take,
-  vec_capacity,
-  IfOk,
-  IsTrue,
-  MatchOption,
-};
+ghost use Rattle.std.specs.Prelude.{◌≡◌, ◌≤◌, ◌+◌, ◌++◌, ◌↔◌, length, drop, map, take};
+ghost use Rattle.std.specs.Prelude.{vec_capacity, IfOk, IsTrue, MatchOption};
 ghost use Rattle.cb_desk.specs.steps.Edits.{renamed, rotated, turned_renaming, with_number};
-ghost use Rattle.cb_desk.specs.steps.Renamings.{
-  LeadsBetween,
-  count_before,
-  count_of,
-  renaming_between,
-};
+ghost use Rattle.cb_desk.specs.steps.Renamings.{LeadsBetween, count_before, count_of};
+ghost use Rattle.cb_desk.specs.steps.Renamings.{renaming_between};
 
 use crate::edits::put_places;
 use crate::places::NumberedPlace;

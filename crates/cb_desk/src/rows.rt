@@ -1,15 +1,8 @@
 //! Questions and the rows that answer them; the forms of a tags file.
 ghost use Rattle.std.specs.Prelude.{◌≡◌, ◌≤◌, ◌==◌, ◌||◌, length};
 ghost use Rattle.std.specs.List.{prefix_len};
-ghost use Rattle.cb_desk.specs.Answer.{
-  field_of_digit,
-  file_row,
-  is_header,
-  line_row,
-  space,
-  tab,
-  unindented,
-};
+ghost use Rattle.cb_desk.specs.Answer.{field_of_digit, file_row, is_header, line_row, space, tab};
+ghost use Rattle.cb_desk.specs.Answer.{unindented};
 ghost use Rattle.cb_desk.specs.Models.{row_of};
 
 use cb_scan::{Source, Span};

@@ -1,17 +1,6 @@
 //! The lines of a text that hold another text.
-ghost use Rattle.std.specs.Prelude.{
-  ◌≡◌,
-  ◌≢◌,
-  ◌≤◌,
-  ◌+◌,
-  ◌==◌,
-  [],
-  ◌∷◌,
-  length,
-  count_by,
-  MatchOption,
-  ⊤,
-};
+ghost use Rattle.std.specs.Prelude.{◌≡◌, ◌≢◌, ◌≤◌, ◌+◌, ◌==◌, [], ◌∷◌, length, count_by};
+ghost use Rattle.std.specs.Prelude.{MatchOption, ⊤};
 ghost use Rattle.std.specs.Iterator.{YieldsFirst, item_count};
 ghost use Rattle.cb_scan.specs.Lines.{lines};
 ghost use Rattle.cb_desk.specs.declared.bounds.TheConstants.{MOST_BYTES};

@@ -4,26 +4,13 @@ ghost use Rattle.std.specs.Option.{option_copied, option_map};
 ghost use Rattle.cb_scan.specs.Profiles.{facts_in};
 ghost use Rattle.cb_index.specs.Rows.{calls_in, calls_of, tags_from_name, tags_named, uses_of};
 ghost use Rattle.cb_desk.specs.Answer.{answer};
-ghost use Rattle.cb_desk.specs.Desk.{
-  Counts,
-  CountsUpTo,
-  bytes_in,
-  counted,
-  definitions_in,
-  scanned,
-};
+ghost use Rattle.cb_desk.specs.Desk.{Counts, CountsUpTo, bytes_in, counted, definitions_in};
+ghost use Rattle.cb_desk.specs.Desk.{scanned};
 ghost use Rattle.cb_desk.specs.Models.{scanned_of, step_of};
 ghost use Rattle.cb_desk.specs.Scanned.{scanned_named};
 ghost use Rattle.cb_desk.specs.Tags.{tags};
-ghost use Rattle.cb_desk.specs.Timeline.{
-  Changes,
-  IsValidTimeline,
-  Moves,
-  forgotten,
-  new_timeline,
-  redone,
-  undone,
-};
+ghost use Rattle.cb_desk.specs.Timeline.{Changes, IsValidTimeline, Moves, forgotten, new_timeline};
+ghost use Rattle.cb_desk.specs.Timeline.{redone, undone};
 ghost use Rattle.cb_desk.specs.Turns.{LoadTurns, Turns};
 ghost use Rattle.cb_desk.specs.World.{IsValidWorld, text_named};
 

@@ -1,24 +1,7 @@
 //! What is kept: names, and versions with what is found in them, each under a number; and the
 //! bytes of these that spans name, with their order.
-ghost use Rattle.std.specs.Prelude.{
-  ◌≡◌,
-  ◌<◌,
-  ◌≤◌,
-  ◌+◌,
-  ◌^◌,
-  ◌++◌,
-  ◌∷◌,
-  [],
-  IfErr,
-  IfOk,
-  IfSome,
-  OnErr,
-  OnOk,
-  length,
-  map,
-  slice_index_or,
-  take,
-};
+ghost use Rattle.std.specs.Prelude.{◌≡◌, ◌<◌, ◌≤◌, ◌+◌, ◌++◌, ◌∷◌, [], IfSome, OnOk, length, map};
+ghost use Rattle.std.specs.Prelude.{slice_index_or, take};
 ghost use Rattle.std.specs.Cmp.Lexicographic.{slice_cmp};
 ghost use Rattle.std.specs.List.{All, AllByRecursion, swap_remove};
 ghost use Rattle.std.specs.Option.{option_copied};

@@ -1,24 +1,6 @@
 //! What is kept in blocks, and places in them, found by binary search.
-ghost use Rattle.std.specs.Prelude.{
-  ◌≡◌,
-  ◌<◌,
-  ◌≤◌,
-  ◌+◌,
-  ◌*◌,
-  ◌++◌,
-  ◌∷◌,
-  [],
-  IfOk,
-  OnOk,
-  drop,
-  false,
-  length,
-  slice_index_or,
-  suc,
-  take,
-  true,
-  vec_capacity,
-};
+ghost use Rattle.std.specs.Prelude.{◌≡◌, ◌<◌, ◌≤◌, ◌+◌, ◌*◌, ◌++◌, ◌∷◌, [], IfOk, OnOk, drop};
+ghost use Rattle.std.specs.Prelude.{false, length, slice_index_or, suc, take, true, vec_capacity};
 ghost use Rattle.std.specs.List.{AllByRecursion, insert};
 ghost use Rattle.std.specs.List.Sorted.{IsPartitionPoint, IsPartitionedBy};
 ghost use Rattle.cb_index.specs.Blocks.{AreParted, IsFilled, IsPlace, before, head_is, joined};

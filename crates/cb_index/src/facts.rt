@@ -8,20 +8,9 @@ ghost use Rattle.cb_index.specs.steps.Found.{facts_in};
 ghost use Rattle.cb_index.specs.steps.Given.{given_at, given_in};
 ghost use Rattle.cb_index.specs.steps.Spread.{items_from};
 ghost use Rattle.cb_index.specs.steps.Searched.{items_with, searched_at, searched_count};
-ghost use Rattle.cb_index.specs.steps.Left.{
-  fact_of,
-  fact_of_spot,
-  facts_counted,
-  facts_left,
-  facts_new,
-  group_left,
-  group_count,
-  group_left_if,
-  groups_left,
-  rows_counted,
-  spots_left,
-  walk_left,
-};
+ghost use Rattle.cb_index.specs.steps.Left.{fact_of, fact_of_spot, facts_counted, facts_left};
+ghost use Rattle.cb_index.specs.steps.Left.{facts_new, group_left, group_count, group_left_if};
+ghost use Rattle.cb_index.specs.steps.Left.{groups_left, rows_counted, spots_left, walk_left};
 ghost use Rattle.cb_index.specs.steps.Runs.{run_items};
 ghost use Rattle.cb_index.specs.steps.ShownIn.{shown_in};
 ghost use Rattle.cb_index.specs.declared.entry.Entry.{Entry};

@@ -3,13 +3,8 @@ ghost use Rattle.std.specs.Prelude.{◌≡◌, ◌++◌, ◌∷◌, [], MatchOpt
 ghost use Rattle.std.specs.Iterator.{YieldsFirstBy, item_count};
 ghost use Rattle.cb_index.specs.Includes.{all_includes};
 ghost use Rattle.cb_index.specs.Shelved.{files};
-ghost use Rattle.cb_index.specs.steps.Includes.{
-  begun_left,
-  begun_left_if,
-  include_at,
-  includes_in,
-  includes_left,
-};
+ghost use Rattle.cb_index.specs.steps.Includes.{begun_left, begun_left_if, include_at, includes_in};
+ghost use Rattle.cb_index.specs.steps.Includes.{includes_left};
 ghost use Rattle.cb_index.specs.steps.Left.{entries_left, fact_of, shown_file};
 
 use crate::archive::{Archive, bytes_at, place_at};

@@ -1,27 +1,9 @@
 //! The five indexes: of each the entries in the order of its kind, and the new versions, which are
 //! put off until they are asked.
-ghost use Rattle.std.specs.Prelude.{
-  ◌≡◌,
-  ◌≤◌,
-  ◌+◌,
-  ◌*◌,
-  ◌++◌,
-  ◌∷◌,
-  [],
-  List,
-  OnOk,
-  Some,
-  false,
-  filter,
-  length,
-  not,
-  true,
-  vec_capacity,
-};
-ghost use Rattle.std.specs.Cmp.Lexicographic.{slice_cmp};
+ghost use Rattle.std.specs.Prelude.{◌≡◌, ◌≤◌, ◌+◌, ◌*◌, ◌++◌, ◌∷◌, [], List, OnOk, Some, false};
+ghost use Rattle.std.specs.Prelude.{filter, length, not, true, vec_capacity};
 ghost use Rattle.std.specs.List.{AllByRecursion};
 ghost use Rattle.std.specs.List.Sorted.{IsStrictlyIncreasing};
-ghost use Rattle.std.specs.Ordering.{nat_cmp};
 ghost use Rattle.cb_scan.specs.Order.{goes_first, in_order};
 ghost use Rattle.cb_index.specs.Blocks.{joined};
 ghost use Rattle.cb_index.specs.Entries.{has_key, has_key_from, sort_key};
@@ -33,15 +15,8 @@ ghost use Rattle.cb_index.specs.Shelved.{HasRoom, IsIndex, room_for};
 ghost use Rattle.cb_index.specs.declared.blocks.TheConstants.{HALF};
 ghost use Rattle.cb_index.specs.declared.entry.Entry.{Entry};
 ghost use Rattle.cb_index.specs.declared.entry.Shown.{Shown};
-ghost use Rattle.cb_index.specs.steps.Moves.{
-  Become,
-  CanTakeIn,
-  LetsGo,
-  LetsGoAll,
-  StaysItself,
-  StaysSame,
-  TakesIn,
-};
+ghost use Rattle.cb_index.specs.steps.Moves.{Become, CanTakeIn, LetsGo, LetsGoAll, StaysItself};
+ghost use Rattle.cb_index.specs.steps.Moves.{StaysSame, TakesIn};
 ghost use Rattle.cb_index.specs.steps.Runs.{run_items};
 ghost use Rattle.cb_index.specs.steps.ToCome.{is_asked};
 

@@ -3,15 +3,8 @@
 //! function column have one row.
 ghost use Rattle.std.specs.Prelude.{◌≡◌, ◌<◌, ◌^◌, ◌∷◌, [], MatchOption, true};
 ghost use Rattle.cb_index.specs.Counts.{row_count};
-ghost use Rattle.cb_index.specs.Items.{
-  have_one_key,
-  is_first,
-  item_count,
-  item_key,
-  item_line,
-  item_span,
-  later,
-};
+ghost use Rattle.cb_index.specs.Items.{have_one_key, is_first, item_count, item_key, item_line};
+ghost use Rattle.cb_index.specs.Items.{item_span, later};
 ghost use Rattle.cb_index.specs.steps.Chains.{chain_left};
 ghost use Rattle.cb_index.specs.steps.Spread.{items_from};
 

@@ -1,19 +1,6 @@
 //! Links from each use or call to the next one of its key in a version, and how they are laid: its
 //! items are sorted by key, so that those of one key stand side by side, and then by row.
-ghost use Rattle.std.specs.Prelude.{
-  ◌≡◌,
-  ◌<◌,
-  ◌≤◌,
-  ◌+◌,
-  ◌⊎◌,
-  ◌++◌,
-  [],
-  IfOk,
-  length,
-  true,
-  vec_capacity,
-  vec_len,
-};
+ghost use Rattle.std.specs.Prelude.{◌≡◌, ◌<◌, ◌≤◌, ◌+◌, ◌⊎◌, [], IfOk, length, true, vec_capacity};
 ghost use Rattle.std.specs.Cmp.Lexicographic.{slice_cmp};
 ghost use Rattle.std.specs.List.{AllByRecursion};
 ghost use Rattle.std.specs.List.Sorted.{IsPermutation};
@@ -23,25 +10,10 @@ ghost use Rattle.cb_index.specs.Bytes.{cut};
 ghost use Rattle.cb_index.specs.Items.{item_count};
 ghost use Rattle.cb_index.specs.Links.{links_for, links_of, nothing_laid, with_links};
 ghost use Rattle.cb_index.specs.declared.links.Mention.{Mention};
-ghost use Rattle.cb_index.specs.steps.Laying.{
-  are_alike,
-  bytes_rank,
-  column_rest,
-  hash,
-  have_one_rest,
-  item_or_none,
-  key_end,
-  key_rest,
-  link_by,
-  mention_of,
-  mentions_of,
-  next_mention,
-  numbers,
-  rank,
-  row_rest,
-  span_or_none,
-  with_each,
-};
+ghost use Rattle.cb_index.specs.steps.Laying.{are_alike, bytes_rank, column_rest, hash};
+ghost use Rattle.cb_index.specs.steps.Laying.{have_one_rest, item_or_none, key_end, key_rest};
+ghost use Rattle.cb_index.specs.steps.Laying.{link_by, mention_of, mentions_of, next_mention};
+ghost use Rattle.cb_index.specs.steps.Laying.{numbers, rank, row_rest, span_or_none, with_each};
 
 use crate::archive::{OutOfMemory, ScannedSource, cut};
 use crate::entry::FactKind;

@@ -2,22 +2,8 @@
 //! bounds among them. Entries compare by prefix, key, file name and then by their own numbers. Key
 //! and name are looked up in the archive; so what is pushed there changes nothing of the order of
 //! entries that are held. Of one key in one file the numbers go by place.
-ghost use Rattle.std.specs.Prelude.{
-  ◌≡◌,
-  ◌<◌,
-  ◌≤◌,
-  ◌+◌,
-  ◌^◌,
-  ◌++◌,
-  [],
-  ℕ,
-  IfSome,
-  List,
-  length,
-  map,
-  vec_capacity,
-  vec_len,
-};
+ghost use Rattle.std.specs.Prelude.{◌≡◌, ◌<◌, ◌≤◌, ◌+◌, ◌^◌, ◌++◌, [], ℕ, IfSome, List, length};
+ghost use Rattle.std.specs.Prelude.{map, vec_capacity, vec_len};
 ghost use Rattle.std.specs.Cmp.Lexicographic.{slice_cmp};
 ghost use Rattle.std.specs.Ordering.{nat_cmp};
 ghost use Rattle.cb_tags.specs.TagNames.{tag_name};
@@ -26,17 +12,8 @@ ghost use Rattle.cb_index.specs.Entries.{bytes_key, file_key, key_cmp, key_of, n
 ghost use Rattle.cb_index.specs.Firsts.{firsts};
 ghost use Rattle.cb_index.specs.Held.{entries_of, entry_of, listed_of};
 ghost use Rattle.cb_index.specs.Kinds.{keyer_of, lister_of, prefix_of};
-ghost use Rattle.cb_index.specs.Orders.{
-  def_entry,
-  def_key,
-  def_prefix,
-  def_span,
-  key_in,
-  numbered,
-  prefixed,
-  tag_front,
-  tag_prefix,
-};
+ghost use Rattle.cb_index.specs.Orders.{def_entry, def_key, def_prefix, def_span, key_in, numbered};
+ghost use Rattle.cb_index.specs.Orders.{prefixed, tag_front, tag_prefix};
 ghost use Rattle.cb_index.specs.Scanned.{facts_of};
 
 use crate::archive::{Archive, Version, bytes_at, compare_by_words, cut};

@@ -2,15 +2,8 @@
 ghost use Rattle.std.specs.Prelude.{◌≡◌};
 ghost use Rattle.std.specs.Option.{option_copied, option_map};
 ghost use Rattle.cb_tags.specs.TagLines.{tag_of, scope_of};
-ghost use Rattle.cb_index.specs.steps.Found.{
-  fact_at,
-  fact_of_call,
-  fact_of_use,
-  no_fact,
-  no_tag,
-  scope_cut,
-  tag_of_def,
-};
+ghost use Rattle.cb_index.specs.steps.Found.{fact_at, fact_of_call, fact_of_use, no_fact, no_tag};
+ghost use Rattle.cb_index.specs.steps.Found.{scope_cut, tag_of_def};
 ghost use Rattle.cb_index.specs.steps.Left.{fact_of, fact_of_spot, tag_of_spot};
 
 use crate::archive::{Archive, ScannedSource, Version, bytes_at, cut, place_at};

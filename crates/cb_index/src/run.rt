@@ -1,21 +1,6 @@
 //! What is lent of blocks: elements that follow one another, and the files that are shown, by name.
-ghost use Rattle.std.specs.Prelude.{
-  ◌≡◌,
-  ◌<◌,
-  ◌≤◌,
-  ◌^◌,
-  ◌++◌,
-  ◌∷◌,
-  [],
-  ℕ,
-  ⊤,
-  MatchOption,
-  drop,
-  false,
-  length,
-  take,
-  true,
-};
+ghost use Rattle.std.specs.Prelude.{◌≡◌, ◌<◌, ◌^◌, ◌++◌, ◌∷◌, [], ℕ, ⊤, MatchOption, drop, false};
+ghost use Rattle.std.specs.Prelude.{length, take, true};
 ghost use Rattle.std.proofs.Props.{props};
 ghost use Rattle.std.specs.Cmp.Lexicographic.{slice_cmp};
 ghost use Rattle.std.specs.List.{AllByRecursion};

@@ -1,72 +1,23 @@
 //! Versions that are shown under file names, and what is found in them.
-ghost use Rattle.std.specs.Prelude.{
-  ◌≡◌,
-  ◌<◌,
-  ◌≤◌,
-  ◌+◌,
-  ◌-◌,
-  ◌*◌,
-  ◌^◌,
-  ◌++◌,
-  ◌∷◌,
-  [],
-  ℕ,
-  MatchOption,
-  OnOk,
-  drop,
-  false,
-  filter,
-  length,
-  map,
-  min,
-  nat_eq,
-  not,
-  take,
-  true,
-  vec_capacity,
-};
-ghost use Rattle.std.specs.Cmp.Lexicographic.{slice_cmp};
-ghost use Rattle.std.specs.List.{AllByRecursion, list_any, swap_remove};
+ghost use Rattle.std.specs.Prelude.{◌≡◌, ◌<◌, ◌≤◌, ◌+◌, ◌-◌, ◌^◌, ◌++◌, ◌∷◌, [], ℕ, MatchOption};
+ghost use Rattle.std.specs.Prelude.{OnOk, false, filter, length, map, min, nat_eq, not, take, true};
+ghost use Rattle.std.specs.List.{AllByRecursion, swap_remove};
 ghost use Rattle.std.specs.List.Sorted.{IsStrictlyIncreasing};
-ghost use Rattle.std.specs.Ordering.{is_gt, nat_cmp};
-ghost use Rattle.std.specs.Str.{bytes_eq};
-ghost use Rattle.cb_scan.specs.Order.{goes_first, in_order, put};
-ghost use Rattle.cb_index.specs.Archived.{AreBytes, name_of};
+ghost use Rattle.cb_scan.specs.Order.{in_order, put};
+ghost use Rattle.cb_index.specs.Archived.{AreBytes};
 ghost use Rattle.cb_index.specs.Compact.{ShowsAll, ShowsSame, shows_version};
 ghost use Rattle.cb_index.specs.Counts.{rows_in_files, unlike_in_files};
 ghost use Rattle.cb_index.specs.Files.{AreAscending, IsThere, shown_name};
 ghost use Rattle.cb_index.specs.Kinds.{def_kind};
 ghost use Rattle.cb_index.specs.Names.{is_among, names_of};
-ghost use Rattle.cb_index.specs.Rows.{
-  calls_in,
-  calls_of,
-  facts_named,
-  file_facts,
-  tags_by_name,
-  tags_by_tag_name,
-  tags_from_name,
-  tags_named,
-  uses_of,
-};
-ghost use Rattle.cb_index.specs.Shelved.{
-  AreTotals,
-  CanShow,
-  IsIndex,
-  KeepsRoom,
-  files,
-  kind_place,
-  larger_room,
-  with_facts,
-};
+ghost use Rattle.cb_index.specs.Rows.{calls_in, calls_of, facts_named, file_facts, tags_by_name};
+ghost use Rattle.cb_index.specs.Rows.{tags_by_tag_name, tags_from_name, tags_named, uses_of};
+ghost use Rattle.cb_index.specs.Shelved.{AreTotals, CanShow, IsIndex, KeepsRoom, files, kind_place};
+ghost use Rattle.cb_index.specs.Shelved.{larger_room, with_facts};
 ghost use Rattle.cb_index.specs.declared.entry.Shown.{Shown};
 ghost use Rattle.cb_index.specs.steps.Compact.{IsAmong, renumbered};
-ghost use Rattle.cb_index.specs.steps.Left.{
-  entries_left,
-  facts_counted,
-  facts_left,
-  facts_new,
-  tags_left,
-};
+ghost use Rattle.cb_index.specs.steps.Left.{entries_left, facts_counted, facts_left, facts_new};
+ghost use Rattle.cb_index.specs.steps.Left.{tags_left};
 ghost use Rattle.cb_index.specs.steps.ShownIn.{shown_in};
 ghost use Rattle.cb_index.specs.steps.ToCome.{asked_tags};
 
@@ -119,7 +70,6 @@ pub struct Shelf {
 }
 
 impl Model for Shelf {
-    ghost use Rattle.std.specs.Prelude.{vec_capacity};
     ghost use Rattle.cb_index.specs.Shelved.{AreKept, AreTotals, AreWithin, Shelved};
 
     ghost Value = { Shelved };

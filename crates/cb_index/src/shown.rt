@@ -1,47 +1,19 @@
 //! The list of what is shown, by file name; what is asked of lists of versions under file names,
 //! and of numbers of names.
-ghost use Rattle.std.specs.Prelude.{
-  ◌≡◌,
-  ◌<◌,
-  ◌≤◌,
-  ◌+◌,
-  ◌*◌,
-  ◌&&◌,
-  ◌++◌,
-  ◌∷◌,
-  [],
-  ⊤,
-  MatchOption,
-  OnOk,
-  drop,
-  false,
-  filter,
-  length,
-  nat_eq,
-  nat_lt,
-  not,
-  take,
-  true,
-  vec_capacity,
-};
+ghost use Rattle.std.specs.Prelude.{◌≡◌, ◌<◌, ◌≤◌, ◌+◌, ◌*◌, ◌&&◌, ◌++◌, ◌∷◌, [], ⊤, MatchOption};
+ghost use Rattle.std.specs.Prelude.{OnOk, false, filter, length, nat_eq, nat_lt, not, take, true};
+ghost use Rattle.std.specs.Prelude.{vec_capacity};
 ghost use Rattle.std.specs.Cmp.Lexicographic.{slice_cmp};
 ghost use Rattle.std.specs.List.{AllByRecursion, list_all, list_any, prefix_len};
-ghost use Rattle.std.specs.List.Sorted.{IsPartitionPoint, IsStrictlyIncreasing};
-ghost use Rattle.std.specs.Ordering.{is_gt, is_lt, nat_cmp};
+ghost use Rattle.std.specs.List.Sorted.{IsStrictlyIncreasing};
+ghost use Rattle.std.specs.Ordering.{is_lt, nat_cmp};
 ghost use Rattle.std.specs.Str.{bytes_eq};
 ghost use Rattle.cb_scan.specs.Order.{in_order, put};
 ghost use Rattle.cb_index.specs.Archived.{name_of};
 ghost use Rattle.cb_index.specs.Blocks.{joined};
 ghost use Rattle.cb_index.specs.Compact.{shows_version};
-ghost use Rattle.cb_index.specs.Files.{
-  AreApart,
-  AreAscending,
-  IsThere,
-  is_shown,
-  shown_key,
-  shown_name,
-  shown_under,
-};
+ghost use Rattle.cb_index.specs.Files.{AreApart, AreAscending, IsThere, is_shown, shown_key};
+ghost use Rattle.cb_index.specs.Files.{shown_name, shown_under};
 ghost use Rattle.cb_index.specs.Names.{AreSingle, is_among, names_of};
 ghost use Rattle.cb_index.specs.declared.blocks.TheConstants.{HALF};
 ghost use Rattle.cb_index.specs.declared.entry.Shown.{Shown};

@@ -1,21 +1,10 @@
 //! Entries are sorted by their prefixes, and those of one prefix by the words of their keys that
 //! follow, each looked up once. What has one key is sorted by comparing files.
-ghost use Rattle.std.specs.Prelude.{
-  ◌≡◌,
-  ◌≤◌,
-  ℕ,
-  true,
-  IfSome,
-  length,
-  map,
-  nat_eq,
-  nat_le,
-  nat_lt,
-  vec_capacity,
-};
+ghost use Rattle.std.specs.Prelude.{◌≡◌, ℕ, true, IfSome, length, map, nat_eq, nat_le, nat_lt};
+ghost use Rattle.std.specs.Prelude.{vec_capacity};
 ghost use Rattle.std.specs.List.{AllByRecursion, list_all};
 ghost use Rattle.std.specs.Cmp.Lexicographic.{slice_cmp};
-ghost use Rattle.std.specs.List.Sorted.{IsNonDecreasingBy, IsPartitionPoint, IsPermutation};
+ghost use Rattle.std.specs.List.Sorted.{IsNonDecreasingBy, IsPermutation};
 ghost use Rattle.std.specs.Ordering.{nat_cmp};
 ghost use Rattle.cb_scan.specs.Order.{in_order};
 ghost use Rattle.cb_index.specs.Entries.{sort_key};

@@ -1,23 +1,7 @@
 //! An index of rows in one order, for its own sake: rows, the five orders of them, and the rows of
 //! entries, one after another.
-ghost use Rattle.std.specs.Prelude.{
-  ◌≡◌,
-  ◌≤◌,
-  ◌+◌,
-  ◌++◌,
-  ◌∷◌,
-  [],
-  List,
-  MatchOption,
-  OnOk,
-  Some,
-  false,
-  filter,
-  length,
-  nat_eq,
-  not,
-  true,
-};
+ghost use Rattle.std.specs.Prelude.{◌≡◌, ◌≤◌, ◌+◌, ◌++◌, ◌∷◌, [], List, MatchOption, OnOk, Some};
+ghost use Rattle.std.specs.Prelude.{false, filter, length, nat_eq, not, true};
 ghost use Rattle.std.specs.Cmp.Lexicographic.{slice_cmp};
 ghost use Rattle.std.specs.Iterator.{YieldsFirst, item_count};
 ghost use Rattle.std.specs.Ordering.{nat_cmp, ordering_then};
@@ -28,16 +12,8 @@ ghost use Rattle.cb_index.specs.Entries.{has_key, sort_key};
 ghost use Rattle.cb_index.specs.Files.{IsThere, count_for, is_shown, shown_name, shown_under};
 ghost use Rattle.cb_index.specs.Held.{entries_of, listed_of};
 ghost use Rattle.cb_index.specs.Kinds.{fact_kind, keyer_of, lister_of, prefix_of};
-ghost use Rattle.cb_index.specs.RowOrders.{
-  def_rank,
-  def_start,
-  rank_for,
-  row_key,
-  row_numbers,
-  row_order,
-  start_for,
-  start_of,
-};
+ghost use Rattle.cb_index.specs.RowOrders.{def_rank, rank_for, row_key, row_numbers, row_order};
+ghost use Rattle.cb_index.specs.RowOrders.{start_for, start_of};
 ghost use Rattle.cb_index.specs.Spreads.{HoldsRowsOf, rows_of_key};
 ghost use Rattle.cb_index.specs.declared.entry.Entry.{Entry};
 ghost use Rattle.cb_index.specs.declared.entry.Shown.{Shown};

@@ -9,14 +9,8 @@ ghost use Rattle.cb_index.specs.Held.{all_entries, entries_of};
 ghost use Rattle.cb_index.specs.Kinds.{def_kind, keyer_of, lister_of, prefix_of};
 ghost use Rattle.cb_index.specs.declared.entry.Entry.{Entry};
 ghost use Rattle.cb_index.specs.steps.ShownIn.{shown_in};
-ghost use Rattle.cb_index.specs.steps.ToCome.{
-  GoesOn,
-  earlier,
-  first_of,
-  is_asked,
-  is_later,
-  to_come,
-};
+ghost use Rattle.cb_index.specs.steps.ToCome.{GoesOn, earlier, first_of, is_asked, is_later};
+ghost use Rattle.cb_index.specs.steps.ToCome.{to_come};
 
 use crate::archive::Archive;
 use crate::entry::{Asked, Entry, IndexKind, Shown};

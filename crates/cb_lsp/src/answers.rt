@@ -1,21 +1,7 @@
 //! The answers to questions, as replies.
-ghost use Rattle.std.specs.Prelude.{
-  ◌≡◌,
-  ◌≤◌,
-  ◌++◌,
-  MatchOption,
-  List,
-  [],
-  Some,
-  false,
-  length,
-  map,
-  take,
-  true,
-  IfOk,
-};
+ghost use Rattle.std.specs.Prelude.{◌≡◌, ◌≤◌, ◌++◌, MatchOption, List, [], Some, false, length};
+ghost use Rattle.std.specs.Prelude.{map, take, true};
 ghost use Rattle.std.specs.List.{list_any};
-ghost use Rattle.std.specs.Option.{option_map};
 ghost use Rattle.json.specs.Json.{Json, array};
 ghost use Rattle.cb_desk.specs.World.{has_file};
 ghost use Rattle.cb_index.specs.Rows.{tags_named};
@@ -30,20 +16,9 @@ ghost use Rattle.cb_wire.specs.Texts.{frame};
 ghost use Rattle.cb_wire.specs.Trees.{result_reply};
 ghost use Rattle.cb_wire.specs.Values.{items_of, value_text};
 ghost use Rattle.cb_wire.specs.declared.list.TheConstants.{MOST_ELEMENTS};
-ghost use Rattle.cb_lsp.specs.Answers.{
-  answer_in,
-  callables_at,
-  definition_at,
-  highlights_of,
-  hover_at,
-  hover_over,
-  list_of,
-  places_of_word,
-  references_of_word,
-  some_of,
-  word_meaning,
-  word_references,
-};
+ghost use Rattle.cb_lsp.specs.Answers.{answer_in, callables_at, definition_at, highlights_of};
+ghost use Rattle.cb_lsp.specs.Answers.{hover_at, hover_over, list_of, places_of_word};
+ghost use Rattle.cb_lsp.specs.Answers.{references_of_word, some_of, word_meaning, word_references};
 ghost use Rattle.cb_lsp.specs.Calls.{callables, item_of};
 ghost use Rattle.cb_lsp.specs.Completions.{completing, completions_of};
 ghost use Rattle.cb_lsp.specs.Headers.{folder_of, header_at, header_files};

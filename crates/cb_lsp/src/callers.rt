@@ -1,41 +1,14 @@
 //! Calls by their callers.
-ghost use Rattle.std.specs.Prelude.{
-  ◌≡◌,
-  ◌≤◌,
-  ◌+◌,
-  ◌∷◌,
-  [],
-  Bool,
-  IfOk,
-  MatchOption,
-  Some,
-  drop,
-  length,
-  map,
-  nat_lt,
-};
+ghost use Rattle.std.specs.Prelude.{◌≡◌, ◌≤◌, ◌+◌, ◌∷◌, [], Bool, IfOk, MatchOption, Some, drop};
+ghost use Rattle.std.specs.Prelude.{length, map, nat_lt};
 ghost use Rattle.std.specs.Cmp.Lexicographic.{slice_cmp};
 ghost use Rattle.std.specs.List.{prefix_len};
 ghost use Rattle.std.specs.Ordering.{nat_cmp};
 ghost use Rattle.cb_scan.specs.Order.{AreOrdered, IsDefBefore};
-ghost use Rattle.cb_lsp.specs.Calls.{
-  by_caller,
-  called_at,
-  caller_item,
-  caller_name,
-  caller_place,
-  calls_reached,
-  have_one_caller,
-  kind_at,
-  kind_in,
-};
-ghost use Rattle.cb_lsp.specs.steps.Callers.{
-  FirstCalls,
-  called_in,
-  called_rows,
-  incoming_left,
-  kind_first,
-};
+ghost use Rattle.cb_lsp.specs.Calls.{by_caller, called_at, caller_item, caller_name, caller_place};
+ghost use Rattle.cb_lsp.specs.Calls.{calls_reached, have_one_caller, kind_at, kind_in};
+ghost use Rattle.cb_lsp.specs.steps.Callers.{FirstCalls, called_in, called_rows, incoming_left};
+ghost use Rattle.cb_lsp.specs.steps.Callers.{kind_first};
 ghost use Rattle.cb_lsp.specs.steps.Located.{client_in};
 ghost use Rattle.cb_lsp.specs.Answers.{incoming_named};
 ghost use Rattle.cb_lsp.specs.Messages.{result_unless};

@@ -80,7 +80,7 @@ impl<'a> Model for Positions<'a> {
 }
 
 impl<'a> Positions<'a> {
-    ghost use Rattle.std.specs.Prelude.{◌≤◌, length};
+    ghost use Rattle.std.specs.Prelude.{length};
     ghost use Rattle.cb_scan.specs.Lines.{line_of, line_text};
     ghost use Rattle.cb_wire.specs.Positions.{position};
     ghost use Rattle.cb_wire.specs.Units.{column};

@@ -2,24 +2,11 @@
 ghost use Rattle.std.specs.Prelude.{◌≡◌, [], false, IfOk, OnErr, OnOk};
 ghost use Rattle.std.specs.List.{position};
 ghost use Rattle.std.specs.Option.{option_map};
-ghost use Rattle.cb_lsp.specs.Documents.{
-  document_of,
-  is_named,
-  is_open,
-  kept_text,
-  was_lost,
-  without_document,
-};
+ghost use Rattle.cb_lsp.specs.Documents.{document_of, is_named, is_open, kept_text, was_lost};
+ghost use Rattle.cb_lsp.specs.Documents.{without_document};
 ghost use Rattle.cb_lsp.specs.Models.{kept_in, kept_of};
-ghost use Rattle.cb_lsp.specs.steps.Noted.{
-  is_present,
-  keeps_present,
-  new_document,
-  noted,
-  text_again,
-  with_noted,
-  with_opened,
-};
+ghost use Rattle.cb_lsp.specs.steps.Noted.{is_present, keeps_present, new_document, noted};
+ghost use Rattle.cb_lsp.specs.steps.Noted.{text_again, with_noted, with_opened};
 
 use std::alloc::{AllocError, Global};
 use std::marker::Model;

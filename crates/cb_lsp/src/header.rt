@@ -1,14 +1,7 @@
 //! Headers of includes, and the files that they mean.
 ghost use Rattle.std.specs.Prelude.{◌≡◌, ◌≤◌, length, option_map};
-ghost use Rattle.cb_lsp.specs.Headers.{
-  after_dots,
-  folder_length,
-  folder_of,
-  header_at,
-  holds,
-  is_in_folder,
-  without_dots,
-};
+ghost use Rattle.cb_lsp.specs.Headers.{after_dots, folder_length, folder_of, header_at, holds};
+ghost use Rattle.cb_lsp.specs.Headers.{is_in_folder, without_dots};
 
 use cb_scan::{Include, Span};
 

@@ -16,12 +16,8 @@ ghost use Rattle.cb_lsp.specs.Exact.{RenamesAreExact};
 ghost use Rattle.cb_lsp.specs.Places.{line_range, range_of, range_of_line, start_of_file};
 ghost use Rattle.cb_lsp.specs.Ranges.{IsInOrder, IsNamedIn, IsUseIn, LiesInside};
 ghost use Rattle.cb_lsp.specs.Searches.{found_by};
-ghost use Rattle.cb_lsp.specs.Sync.{
-  DocumentsStayInSync,
-  RequestsChangeNothing,
-  WhatIsToldChangedNothing,
-  WhatIsToldOfEventsChangedNothing,
-};
+ghost use Rattle.cb_lsp.specs.Sync.{DocumentsStayInSync, RequestsChangeNothing};
+ghost use Rattle.cb_lsp.specs.Sync.{WhatIsToldChangedNothing, WhatIsToldOfEventsChangedNothing};
 ghost use Rattle.cb_lsp.specs.Words.{word_at};
 
 /// After any messages for which memory was not refused, whatever is found where files are read

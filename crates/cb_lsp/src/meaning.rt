@@ -2,22 +2,10 @@
 ghost use Rattle.std.specs.Prelude.{◌≡◌, ◌∷◌, None};
 ghost use Rattle.std.specs.Iterator.{YieldsFirstBy, item_count};
 ghost use Rattle.cb_tags.specs.TagLines.{tag_of};
-ghost use Rattle.cb_lsp.specs.Meaning.{
-  has_private,
-  is_function,
-  is_private,
-  is_private_in,
-  meaning,
-};
-ghost use Rattle.cb_lsp.specs.steps.Meanings.{
-  AreByFile,
-  begins_private,
-  group_of,
-  hidden_behind,
-  meaning_left,
-  seen_first,
-  seen_in,
-};
+ghost use Rattle.cb_lsp.specs.Meaning.{has_private, is_function, is_private, is_private_in};
+ghost use Rattle.cb_lsp.specs.Meaning.{meaning};
+ghost use Rattle.cb_lsp.specs.steps.Meanings.{AreByFile, begins_private, group_of, hidden_behind};
+ghost use Rattle.cb_lsp.specs.steps.Meanings.{meaning_left, seen_first, seen_in};
 
 use cb_desk::Definitions;
 use cb_scan::Kind;

@@ -1,17 +1,6 @@
 //! What functions and macros call.
-ghost use Rattle.std.specs.Prelude.{
-  ◌≡◌,
-  ◌≤◌,
-  ◌++◌,
-  ◌∷◌,
-  [],
-  Bool,
-  IfOk,
-  MatchOption,
-  Some,
-  length,
-  map,
-};
+ghost use Rattle.std.specs.Prelude.{◌≡◌, ◌≤◌, ◌++◌, ◌∷◌, [], Bool, IfOk, MatchOption, Some, length};
+ghost use Rattle.std.specs.Prelude.{map};
 ghost use Rattle.std.specs.Cmp.Lexicographic.{slice_cmp};
 ghost use Rattle.std.specs.List.{flat_map, prefix_len};
 ghost use Rattle.std.specs.Ordering.{nat_cmp};
@@ -24,28 +13,11 @@ ghost use Rattle.cb_wire.specs.Values.{value_text};
 ghost use Rattle.cb_lsp.specs.Answers.{list_of, outgoing_named};
 ghost use Rattle.cb_lsp.specs.Calls.{cut_by};
 ghost use Rattle.cb_lsp.specs.Messages.{result_unless};
-ghost use Rattle.cb_lsp.specs.Outgoing.{
-  by_first_call,
-  by_name,
-  called_as,
-  called_calls,
-  callee_of,
-  callees_by,
-  have_one_name,
-  is_call_by,
-  told_by_name,
-};
+ghost use Rattle.cb_lsp.specs.Outgoing.{by_first_call, by_name, called_as, called_calls, callee_of};
+ghost use Rattle.cb_lsp.specs.Outgoing.{callees_by, have_one_name, is_call_by, told_by_name};
 ghost use Rattle.cb_lsp.specs.steps.Located.{client_in};
-ghost use Rattle.cb_lsp.specs.steps.Outgoing.{
-  FirstGroup,
-  called_in,
-  called_rows,
-  callee_in,
-  callee_rows,
-  group_in,
-  group_rows,
-  outgoing_left,
-};
+ghost use Rattle.cb_lsp.specs.steps.Outgoing.{FirstGroup, called_in, called_rows, callee_in};
+ghost use Rattle.cb_lsp.specs.steps.Outgoing.{callee_rows, group_in, group_rows, outgoing_left};
 
 use crate::answers::put_list;
 use crate::calls::next_callable;

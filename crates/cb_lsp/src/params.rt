@@ -1,42 +1,15 @@
 //! The parameters of requests and notifications.
-ghost use Rattle.std.specs.Prelude.{◌≡◌, MatchOption};
+ghost use Rattle.std.specs.Prelude.{◌≡◌};
 ghost use Rattle.std.specs.Option.{option_map};
 ghost use Rattle.json.specs.Value.{items_view, value_view};
 ghost use Rattle.cb_lsp.specs.Models.{change_seen};
-ghost use Rattle.cb_lsp.specs.Params.{
-  are_changes,
-  bool_in,
-  change_of,
-  changes_among,
-  changes_in,
-  declarations_in,
-  document_text,
-  event_of,
-  first_of,
-  has_text,
-  is_change,
-  is_text,
-  is_true,
-  item_name,
-  item_start,
-  item_uri,
-  items_in,
-  member_of,
-  new_name_in,
-  number_in,
-  position_at,
-  position_in,
-  prepares_renames,
-  query_in,
-  range_at,
-  root_in,
-  takes_trees,
-  takes_utf8,
-  takes_watchers,
-  text_in,
-  unless_null,
-  uri_in,
-};
+ghost use Rattle.cb_lsp.specs.Params.{are_changes, bool_in, change_of, changes_among, changes_in};
+ghost use Rattle.cb_lsp.specs.Params.{declarations_in, document_text, event_of, first_of, has_text};
+ghost use Rattle.cb_lsp.specs.Params.{is_change, is_text, is_true, item_name, item_start, item_uri};
+ghost use Rattle.cb_lsp.specs.Params.{items_in, member_of, new_name_in, number_in, position_at};
+ghost use Rattle.cb_lsp.specs.Params.{position_in, prepares_renames, query_in, range_at, root_in};
+ghost use Rattle.cb_lsp.specs.Params.{takes_trees, takes_utf8, takes_watchers, text_in};
+ghost use Rattle.cb_lsp.specs.Params.{unless_null, uri_in};
 ghost use Rattle.cb_lsp.specs.steps.Values.{seen};
 
 use crate::change::TextChange;

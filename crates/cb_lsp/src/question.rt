@@ -1,30 +1,12 @@
 //! What requests ask of the files.
-ghost use Rattle.std.specs.Prelude.{◌≡◌, MatchResult};
+ghost use Rattle.std.specs.Prelude.{◌≡◌};
 ghost use Rattle.std.specs.Option.{option_map};
 ghost use Rattle.cb_lsp.specs.Models.{asked_in, asked_of};
-ghost use Rattle.cb_lsp.specs.Questions.{
-  asked_by,
-  asked_of_files_by,
-  at_place,
-  calls_by,
-  calls_to,
-  folds,
-  in_file,
-  or_bad,
-  rename_with,
-  uses_at,
-  workspace_symbols,
-};
-ghost use Rattle.cb_lsp.specs.Params.{
-  declarations_in,
-  item_name,
-  item_start,
-  item_uri,
-  new_name_in,
-  position_in,
-  query_in,
-  uri_in,
-};
+ghost use Rattle.cb_lsp.specs.Questions.{asked_by, asked_of_files_by, at_place, calls_by, calls_to};
+ghost use Rattle.cb_lsp.specs.Questions.{folds, in_file, or_bad, rename_with, uses_at};
+ghost use Rattle.cb_lsp.specs.Questions.{workspace_symbols};
+ghost use Rattle.cb_lsp.specs.Params.{declarations_in, item_name, item_start, item_uri};
+ghost use Rattle.cb_lsp.specs.Params.{new_name_in, position_in, query_in, uri_in};
 ghost use Rattle.cb_lsp.specs.steps.Values.{seen};
 
 use crate::params::{

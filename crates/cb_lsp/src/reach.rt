@@ -4,17 +4,9 @@ ghost use Rattle.std.specs.Iterator.{YieldsFirstBy, item_count};
 ghost use Rattle.cb_index.specs.steps.Left.{fact_of_spot};
 ghost use Rattle.cb_tags.specs.TagLines.{tag_of};
 ghost use Rattle.cb_lsp.specs.References.{uses_reached};
-ghost use Rattle.cb_lsp.specs.steps.References.{
-  AreByPlace,
-  UsesAreByPlace,
-  first_if,
-  from_file,
-  from_place,
-  is_before,
-  is_hidden,
-  reached_left,
-  reached_of,
-};
+ghost use Rattle.cb_lsp.specs.steps.References.{AreByPlace, UsesAreByPlace, first_if, from_file};
+ghost use Rattle.cb_lsp.specs.steps.References.{from_place, is_before, is_hidden, reached_left};
+ghost use Rattle.cb_lsp.specs.steps.References.{reached_of};
 
 use crate::meaning::{begins_private, has_private};
 use cb_desk::{Definitions, Uses};

@@ -4,15 +4,8 @@ ghost use Rattle.std.specs.Iterator.{YieldsFirstBy, item_count};
 ghost use Rattle.cb_index.specs.steps.Left.{fact_of_spot};
 ghost use Rattle.cb_lsp.specs.References.{references};
 ghost use Rattle.cb_lsp.specs.steps.Elements.{uses_left};
-ghost use Rattle.cb_lsp.specs.steps.References.{
-  AreByPlace,
-  UsesAreByPlace,
-  begins_at,
-  first_if,
-  reached_left,
-  references_left,
-  wanted_of,
-};
+ghost use Rattle.cb_lsp.specs.steps.References.{AreByPlace, UsesAreByPlace, begins_at, first_if};
+ghost use Rattle.cb_lsp.specs.steps.References.{reached_left, references_left, wanted_of};
 
 use crate::location::Located;
 use crate::reach::{Reached, from_place};

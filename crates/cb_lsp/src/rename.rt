@@ -15,29 +15,13 @@ ghost use Rattle.cb_lsp.specs.Answers.{answer_reply, reply_with};
 ghost use Rattle.cb_lsp.specs.Bodies.{Replies};
 ghost use Rattle.cb_lsp.specs.Documents.{Oracle, Reading, document_of, was_lost};
 ghost use Rattle.cb_lsp.specs.Models.{found_in};
-ghost use Rattle.cb_lsp.specs.Renames.{
-  all_edits,
-  check,
-  checks,
-  files_of,
-  is_some_use,
-  renamable_at,
-  renamed_all,
-  renamed_uses,
-  renamed_word,
-  unless_found,
-  unless_lost,
-};
+ghost use Rattle.cb_lsp.specs.Renames.{all_edits, check, checks, files_of, is_some_use};
+ghost use Rattle.cb_lsp.specs.Renames.{renamable_at, renamed_all, renamed_uses, renamed_word};
+ghost use Rattle.cb_lsp.specs.Renames.{unless_found, unless_lost};
 ghost use Rattle.cb_lsp.specs.steps.Located.{client_in};
 ghost use Rattle.cb_lsp.specs.steps.References.{UsesAreByPlace, reached_left};
-ghost use Rattle.cb_lsp.specs.steps.Renames.{
-  check_if,
-  edits_left,
-  is_last_of,
-  reason_of,
-  work_in,
-  ComesTo,
-};
+ghost use Rattle.cb_lsp.specs.steps.Renames.{check_if, edits_left, is_last_of, reason_of, work_in};
+ghost use Rattle.cb_lsp.specs.steps.Renames.{ComesTo};
 ghost use Rattle.cb_lsp.specs.steps.Works.{one_change};
 
 use crate::answers::FileAsked;

@@ -101,7 +101,7 @@ fn encoding_for(params: Option<&Value<'_>>) -> Encoding
 }
 
 impl Server {
-    ghost use Rattle.std.specs.Prelude.{◌<◌, ◌^◌, ◌≤◌, Bool, MatchResult, Ok, Some, codes};
+    ghost use Rattle.std.specs.Prelude.{◌<◌, ◌≤◌, Bool, MatchResult, Ok, Some, codes};
     ghost use Rattle.std.specs.List.{AllByRecursion};
     ghost use Rattle.json.specs.Value.{value_view};
     ghost use Rattle.cb_tags.specs.Writing.{Puts};
@@ -110,23 +110,10 @@ impl Server {
     ghost use Rattle.cb_wire.specs.Trees.{result_reply};
     ghost use Rattle.cb_wire.specs.Values.{value_text};
     ghost use Rattle.cb_lsp.specs.Answers.{answer_named, reply_with};
-    ghost use Rattle.cb_lsp.specs.Messages.{
-      asked_reply,
-      fresh_server,
-      happened,
-      happened_at,
-      happened_in,
-      initialized,
-      noticed,
-      noticed_at,
-      noticed_by,
-      noticed_of,
-      read_behind,
-      registers,
-      requested,
-      running,
-      with_root,
-    };
+    ghost use Rattle.cb_lsp.specs.Messages.{asked_reply, fresh_server, happened, happened_at};
+    ghost use Rattle.cb_lsp.specs.Messages.{happened_in, initialized, noticed, noticed_at};
+    ghost use Rattle.cb_lsp.specs.Messages.{noticed_by, noticed_of, read_behind, registers};
+    ghost use Rattle.cb_lsp.specs.Messages.{requested, running, with_root};
     ghost use Rattle.cb_lsp.specs.Models.{asked_of, found_in};
     ghost use Rattle.cb_lsp.specs.Params.{items_in, member_of, uri_in};
     ghost use Rattle.cb_lsp.specs.Questions.{folds, in_file, incoming, outgoing, rename};

@@ -1,19 +1,6 @@
 //! The symbols of a document, of the whole session, and where they are.
-ghost use Rattle.std.specs.Prelude.{
-  ◌≡◌,
-  ◌≤◌,
-  ◌++◌,
-  ◌∷◌,
-  [],
-  Bool,
-  MatchOption,
-  false,
-  filter,
-  length,
-  map,
-  take,
-  true,
-};
+ghost use Rattle.std.specs.Prelude.{◌≡◌, ◌≤◌, ◌++◌, ◌∷◌, [], Bool, MatchOption, false, filter};
+ghost use Rattle.std.specs.Prelude.{length, map, take, true};
 ghost use Rattle.std.specs.Iterator.{YieldsFirstBy};
 ghost use Rattle.cb_index.specs.steps.Left.{tag_of_spot};
 ghost use Rattle.cb_tags.specs.TagLines.{tag_of};
@@ -22,16 +9,8 @@ ghost use Rattle.cb_wire.specs.Values.{value_text};
 ghost use Rattle.cb_lsp.specs.Headers.{files_named};
 ghost use Rattle.cb_lsp.specs.Searches.{is_like, is_name_like};
 ghost use Rattle.cb_lsp.specs.Symbols.{file_symbol_as, session_symbol};
-ghost use Rattle.cb_lsp.specs.steps.Elements.{
-  client_of_defs,
-  defs_left,
-  file_left,
-  files_left,
-  flat_left,
-  places_left,
-  session_left,
-  tree_left,
-};
+ghost use Rattle.cb_lsp.specs.steps.Elements.{client_of_defs, defs_left, file_left, files_left};
+ghost use Rattle.cb_lsp.specs.steps.Elements.{flat_left, places_left, session_left, tree_left};
 
 use crate::columns::Positions;
 use crate::kind::kind_number;

@@ -1,52 +1,20 @@
 //! The files of a server, and the documents that the editor has open.
-ghost use Rattle.std.specs.Prelude.{
-  ◌≡◌,
-  ◌<◌,
-  ◌≤◌,
-  Bool,
-  true,
-  List,
-  [],
-  ◌∷◌,
-  length,
-  ◌⊎◌,
-  IfErr,
-  IfOk,
-  Some,
-};
+ghost use Rattle.std.specs.Prelude.{◌≡◌, ◌<◌, ◌≤◌, Bool, true, List, [], ◌∷◌, length, ◌⊎◌, IfErr};
+ghost use Rattle.std.specs.Prelude.{IfOk, Some};
 ghost use Rattle.std.specs.Option.{option_copied, option_map};
 ghost use Rattle.json.specs.Value.{items_view};
 ghost use Rattle.cb_tags.specs.Names.{is_file_name};
 ghost use Rattle.cb_desk.specs.Models.{step_of};
-ghost use Rattle.cb_lsp.specs.Documents.{
-  changed,
-  closed,
-  document_of,
-  given,
-  given_found,
-  is_open,
-  is_renewed,
-  opened,
-  removed,
-  saved,
-  taken,
-  text_step,
-  told_unless,
-  was_lost,
-};
+ghost use Rattle.cb_lsp.specs.Documents.{changed, closed, document_of, given, given_found, is_open};
+ghost use Rattle.cb_lsp.specs.Documents.{is_renewed, opened, removed, saved, taken, text_step};
+ghost use Rattle.cb_lsp.specs.Documents.{told_unless, was_lost};
 ghost use Rattle.cb_lsp.specs.Messages.{told_of};
 ghost use Rattle.cb_lsp.specs.Models.{found_in, kept_in};
 ghost use Rattle.cb_lsp.specs.Params.{changes_among};
 ghost use Rattle.cb_lsp.specs.steps.Noted.{with_noted};
 ghost use Rattle.cb_lsp.specs.steps.Values.{seen};
-ghost use Rattle.cb_lsp.specs.steps.Works.{
-  Becomes,
-  Reloads,
-  changed_named,
-  kept_before,
-  one_change,
-  text_at,
-};
+ghost use Rattle.cb_lsp.specs.steps.Works.{Becomes, Reloads, changed_named, kept_before};
+ghost use Rattle.cb_lsp.specs.steps.Works.{one_change, text_at};
 
 use crate::change::text_by;
 use crate::disk::Found;

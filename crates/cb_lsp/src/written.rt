@@ -1,5 +1,5 @@
 //! What is written besides answers.
-ghost use Rattle.std.specs.Prelude.{◌≡◌, ◌∷◌, [], Err, codes};
+ghost use Rattle.std.specs.Prelude.{◌∷◌, [], Err, codes};
 ghost use Rattle.std.specs.Option.{option_copied};
 ghost use Rattle.json.specs.Json.{null};
 ghost use Rattle.cb_tags.specs.Writing.{Puts};
@@ -10,14 +10,8 @@ ghost use Rattle.cb_wire.specs.Uris.{escaped};
 ghost use Rattle.cb_wire.specs.Values.{value_text};
 ghost use Rattle.cb_lsp.specs.Answers.{answer_reply};
 ghost use Rattle.cb_lsp.specs.Renames.{not_open};
-ghost use Rattle.cb_lsp.specs.Messages.{
-  log_of,
-  out_of_memory,
-  out_of_memory_reply,
-  show_if,
-  show_of,
-  unasked_reply,
-};
+ghost use Rattle.cb_lsp.specs.Messages.{log_of, out_of_memory, out_of_memory_reply, show_if};
+ghost use Rattle.cb_lsp.specs.Messages.{show_of, unasked_reply};
 ghost use Rattle.cb_lsp.specs.Bodies.{written_text};
 
 use crate::question::Unasked;

@@ -1,19 +1,6 @@
 //! Reading commands, one at a time.
-ghost use Rattle.std.specs.Prelude.{
-  ◌≡◌,
-  ◌<◌,
-  ◌≤◌,
-  List,
-  ◌∷◌,
-  [],
-  ◌++◌,
-  ℕ,
-  Some,
-  IfOk,
-  IfErr,
-  length,
-  vec_capacity,
-};
+ghost use Rattle.std.specs.Prelude.{◌≡◌, ◌<◌, ◌≤◌, List, ◌∷◌, [], ◌++◌, ℕ, Some, IfOk, IfErr};
+ghost use Rattle.std.specs.Prelude.{length, vec_capacity};
 ghost use Rattle.cb_session.specs.declared.limits.TheConstants.{MOST_LINE};
 ghost use Rattle.cb_session.specs.steps.Lines.{line_of_length};
 

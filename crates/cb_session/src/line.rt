@@ -4,31 +4,12 @@ ghost use Rattle.std.specs.List.{list_all, slice_split, position};
 ghost use Rattle.std.specs.Str.Parse.{digits_value};
 ghost use Rattle.cb_desk.specs.Answer.{field_of_digit};
 ghost use Rattle.cb_session.specs.declared.limits.TheConstants.{MOST_DIGITS};
-ghost use Rattle.cb_session.specs.Commands.{
-  cut_at,
-  is_digit,
-  is_space,
-  is_number,
-  number_in,
-  load_sized,
-  load_words,
-  tags_numbered,
-  tags_words,
-  drop_words,
-  rename_words,
-  mark_numbered,
-  mark_words,
-  to_text,
-  tag_numbered,
-  tag_words,
-  alone,
-  want_of,
-  query_of,
-  field_line,
-  command,
-  command_line,
-  short_line,
-};
+ghost use Rattle.cb_session.specs.Commands.{cut_at, is_digit, is_space, is_number, number_in};
+ghost use Rattle.cb_session.specs.Commands.{load_sized, load_words, tags_numbered, tags_words};
+ghost use Rattle.cb_session.specs.Commands.{drop_words, rename_words, mark_numbered, mark_words};
+ghost use Rattle.cb_session.specs.Commands.{to_text, tag_numbered, tag_words, alone, want_of};
+ghost use Rattle.cb_session.specs.Commands.{query_of, field_line, command, command_line};
+ghost use Rattle.cb_session.specs.Commands.{short_line};
 ghost use Rattle.cb_session.specs.Models.{request_of, command_of, line_request_of};
 ghost use Rattle.cb_session.specs.steps.Words.{rest_of, words_after, parts_of};
 

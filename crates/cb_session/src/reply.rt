@@ -2,14 +2,8 @@
 ghost use Rattle.std.specs.Prelude.{◌≡◌, IfOk, false};
 ghost use Rattle.std.specs.List.{flat_map};
 ghost use Rattle.cb_session.specs.Writing.{Puts};
-ghost use Rattle.cb_session.specs.Output.{
-  row_line,
-  answer_lines,
-  count_line,
-  done_line,
-  refused_line,
-  prompt,
-};
+ghost use Rattle.cb_session.specs.Output.{row_line, answer_lines, count_line, done_line};
+ghost use Rattle.cb_session.specs.Output.{refused_line, prompt};
 ghost use Rattle.cb_desk.specs.Models.{row_of};
 ghost use Rattle.cb_session.specs.steps.Rounds.{move_line};
 

@@ -1,14 +1,5 @@
 //! Addresses: how they are written and read, and the lines that they find.
-ghost use Rattle.std.specs.Prelude.{
-  ◌≡◌,
-  ◌≢◌,
-  ◌++◌,
-  ℕ,
-  false,
-  List,
-  codes,
-  MatchOption,
-};
+ghost use Rattle.std.specs.Prelude.{◌≡◌, ◌≢◌, ◌++◌, ℕ, false, List, codes, MatchOption};
 ghost use Rattle.std.specs.Str.{bytes_eq};
 ghost use Rattle.cb_scan.specs.Lines.{line_text};
 ghost use Rattle.cb_tags.specs.Addresses.{is_escaped, escape, address, IsAddress, finds};

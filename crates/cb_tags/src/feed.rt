@@ -1,17 +1,6 @@
 //! Input, a byte or a piece at a time.
-ghost use Rattle.std.specs.Prelude.{
-  ◌≡◌,
-  ◌↔◌,
-  ◌≤◌,
-  ◌<◌,
-  ◌-◌,
-  ◌++◌,
-  IsTrue,
-  length,
-  min,
-  take,
-  vec_capacity,
-};
+ghost use Rattle.std.specs.Prelude.{◌≡◌, ◌↔◌, ◌≤◌, ◌<◌, ◌-◌, ◌++◌, IsTrue, length, min, take};
+ghost use Rattle.std.specs.Prelude.{vec_capacity};
 ghost use Rattle.cb_tags.specs.Readers.{GivesByte, GivesPiece};
 
 use std::io::BufRead;

@@ -2,18 +2,9 @@
 ghost use Rattle.std.specs.Prelude.{◌≡◌, ◌++◌};
 ghost use Rattle.std.specs.List.{flat_map};
 ghost use Rattle.cb_tags.specs.Addresses.{address};
-ghost use Rattle.cb_tags.specs.TagLines.{
-  tag_of,
-  plain_line,
-  kind_letter,
-  file_field,
-  fields,
-  scope_field,
-  scope_word,
-  extended_line,
-  listing_line,
-  head_lines,
-};
+ghost use Rattle.cb_tags.specs.TagLines.{tag_of, plain_line, kind_letter, file_field, fields};
+ghost use Rattle.cb_tags.specs.TagLines.{scope_field, scope_word, extended_line, listing_line};
+ghost use Rattle.cb_tags.specs.TagLines.{head_lines};
 ghost use Rattle.cb_tags.specs.Writing.{Puts};
 
 use crate::address::put_address;

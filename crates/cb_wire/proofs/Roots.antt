@@ -95,7 +95,6 @@ slash-or-nothing (suc n) (b ∷ bs) rest p = ⊎_elim
 
 -- the root of a folder is one
 module _ (folder : List ℕ) (small : All IsByte folder) (absolute : begins_with_slash folder ≡ true) where
-
   pub folder_is_root : IsRoot (of_folder folder)
   folder_is_root =
       let n = length folder - last_slashes folder in

@@ -1,15 +1,7 @@
 //! Functions and macros that call or are called, as the protocol names them.
-ghost use Rattle.std.specs.Prelude.{◌≡◌, ◌≤◌, ◌*◌, ◌^◌, codes, length, map};
-ghost use Rattle.cb_tags.specs.Writing.{Puts};
-ghost use Rattle.cb_wire.specs.Calls.{
-  call_item_text,
-  call_item_tree,
-  calls_of,
-  range_text,
-  ranges_text,
-  side_front,
-  side_name,
-};
+ghost use Rattle.std.specs.Prelude.{◌≡◌, ◌≤◌, ◌*◌, ◌^◌, length, map};
+ghost use Rattle.cb_wire.specs.Calls.{call_item_text, call_item_tree, calls_of, range_text};
+ghost use Rattle.cb_wire.specs.Calls.{ranges_text, side_front, side_name};
 ghost use Rattle.cb_wire.specs.Texts.{parts_text};
 ghost use Rattle.cb_wire.specs.Values.{value_text};
 

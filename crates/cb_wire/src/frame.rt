@@ -1,5 +1,5 @@
 //! Messages as they come in a stream.
-ghost use Rattle.std.specs.Prelude.{◌≡◌, ◌≤◌, List, ℕ, [], Some, vec_capacity, length};
+ghost use Rattle.std.specs.Prelude.{◌≡◌, ◌≤◌, List, ℕ, [], Some, vec_capacity};
 ghost use Rattle.cb_tags.specs.Readers.{WhateverFollows};
 ghost use Rattle.cb_wire.specs.declared.head.TheConstants.{MOST_HEAD};
 ghost use Rattle.cb_wire.specs.Frames.{ReadsFrame, first_body};

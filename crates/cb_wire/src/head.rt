@@ -1,6 +1,5 @@
 //! The head of a message.
-ghost use Rattle.std.specs.Prelude.{◌≡◌, ◌≤◌, ◌<◌, vec_capacity, length};
-ghost use Rattle.cb_tags.specs.declared.feed.Stage.{Stage};
+ghost use Rattle.std.specs.Prelude.{◌≡◌, ◌≤◌, ◌<◌, vec_capacity};
 ghost use Rattle.cb_tags.specs.Readers.{WhateverFollows};
 ghost use Rattle.cb_wire.specs.Heads.{next};
 ghost use Rattle.cb_wire.specs.steps.ReadHeads.{EndsKnown, ReadsHead};

@@ -2,21 +2,9 @@
 ghost use Rattle.std.specs.Prelude.{◌≡◌, ◌≤◌, ◌&&◌, ◌<◌, nat_le, true, IfSome, length};
 ghost use Rattle.std.specs.List.{list_all, position, prefix_len};
 ghost use Rattle.std.specs.Str.Parse.{digits_value};
-ghost use Rattle.cb_wire.specs.Fields.{
-  content_length,
-  is_blank,
-  is_colon,
-  is_digit,
-  is_name_byte,
-  is_number,
-  number,
-  of_field,
-  of_line,
-  of_split,
-  first_length,
-  trimmed,
-  without_last,
-};
+ghost use Rattle.cb_wire.specs.Fields.{content_length, is_blank, is_colon, is_digit, is_name_byte};
+ghost use Rattle.cb_wire.specs.Fields.{is_number, number, of_field, of_line, of_split};
+ghost use Rattle.cb_wire.specs.Fields.{first_length, trimmed, without_last};
 
 use bstr::ByteSlice;
 

@@ -1,24 +1,7 @@
 //! What holds of columns, positions and names, as functions that do nothing and whose contracts are
 //! the laws.
-ghost use Rattle.std.specs.Prelude.{
-  ◌≡◌,
-  ◌≤◌,
-  ◌<◌,
-  ◌+◌,
-  ◌++◌,
-  ◌^◌,
-  ℕ,
-  codes,
-  true,
-  All,
-  List,
-  [],
-  length,
-  map,
-  Some,
-  take,
-  option_map,
-};
+ghost use Rattle.std.specs.Prelude.{◌≡◌, ◌≤◌, ◌<◌, ◌+◌, ◌++◌, ◌^◌, ℕ, codes, true, All, List, []};
+ghost use Rattle.std.specs.Prelude.{length, map, Some, take, option_map};
 ghost use Rattle.std.specs.List.{AllByRecursion};
 ghost use Rattle.json.specs.Json.{Json, array, document, max_depth};
 ghost use Rattle.json.specs.Print.{escape, print};
@@ -40,27 +23,11 @@ ghost use Rattle.cb_wire.specs.Offsets.{IsText, offset, units};
 ghost use Rattle.cb_wire.specs.Positions.{IsPlace, IsPosition, line_feeds, place, position};
 ghost use Rattle.cb_wire.specs.declared.reply.ErrorCode.{ErrorCode};
 ghost use Rattle.cb_wire.specs.Replies.{error_body, log_body, result_body, show_body};
-ghost use Rattle.cb_wire.specs.Trees.{
-  error_reply,
-  error_tree,
-  notice_tree,
-  result_reply,
-  result_tree,
-};
-ghost use Rattle.cb_wire.specs.Uris.{
-  Below,
-  IsBelow,
-  IsRoot,
-  begins_with_slash,
-  escaped,
-  escaped_path,
-  name_below,
-  of_folder,
-  of_uri,
-  path_below,
-  path_of,
-  uri_of,
-};
+ghost use Rattle.cb_wire.specs.Trees.{error_reply, error_tree, notice_tree, result_reply};
+ghost use Rattle.cb_wire.specs.Trees.{result_tree};
+ghost use Rattle.cb_wire.specs.Uris.{Below, IsBelow, IsRoot, begins_with_slash, escaped};
+ghost use Rattle.cb_wire.specs.Uris.{escaped_path, name_below, of_folder, of_uri, path_below};
+ghost use Rattle.cb_wire.specs.Uris.{path_of, uri_of};
 ghost use Rattle.cb_wire.specs.Calls.{call_item_tree, calls_of, side_name};
 ghost use Rattle.cb_wire.specs.Completions.{completion_tree};
 ghost use Rattle.cb_wire.specs.Edits.{FileEdits, HasEdits, edit_of, edits_of, edits_texts};

@@ -1,22 +1,6 @@
 //! Replies whose result is a list.
-ghost use Rattle.std.specs.Prelude.{
-  ◌≡◌,
-  ◌∷◌,
-  ◌++◌,
-  ◌+◌,
-  ◌<◌,
-  ◌≤◌,
-  ◌^◌,
-  ℕ,
-  IfOk,
-  List,
-  [],
-  MatchOption,
-  length,
-  map,
-  take,
-};
-ghost use Rattle.std.specs.List.{flat_map};
+ghost use Rattle.std.specs.Prelude.{◌≡◌, ◌∷◌, ◌++◌, ◌+◌, ◌<◌, ◌≤◌, ◌^◌, ℕ, IfOk, List, []};
+ghost use Rattle.std.specs.Prelude.{MatchOption, length, map, take};
 ghost use Rattle.cb_tags.specs.Writing.{Puts};
 ghost use Rattle.cb_wire.specs.Lists.{joined, list_text, with_separators};
 ghost use Rattle.cb_wire.specs.Replies.{result_body};

@@ -1,5 +1,5 @@
 //! What the body of a message asks for.
-ghost use Rattle.std.specs.Prelude.{◌≡◌, ◌&&◌, ◌||◌, IfOk, MatchOption, codes, option_map};
+ghost use Rattle.std.specs.Prelude.{◌≡◌, ◌&&◌, ◌||◌, IfOk, MatchOption, option_map};
 ghost use Rattle.std.specs.Cow.{cow_str_bytes};
 ghost use Rattle.json.specs.Json.{document};
 ghost use Rattle.json.specs.Value.{value_view};

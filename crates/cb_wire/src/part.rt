@@ -4,16 +4,8 @@ ghost use Rattle.cb_tags.specs.Writing.{Puts};
 ghost use Rattle.json.specs.Print.{escape, escape_byte, escape_letter, quoted};
 ghost use Rattle.std.specs.Char.{digit_char};
 ghost use Rattle.bstr.specs.Utf8.{decoded};
-ghost use Rattle.cb_wire.specs.Texts.{
-  frame,
-  frame_head,
-  id_text,
-  part_text,
-  parts_text,
-  readable,
-  sequence_size,
-  sequence_text,
-};
+ghost use Rattle.cb_wire.specs.Texts.{frame, frame_head, id_text, part_text, parts_text, readable};
+ghost use Rattle.cb_wire.specs.Texts.{sequence_size, sequence_text};
 
 use crate::range::{number_length, put_number, put_range, range_length};
 use crate::uri::escaped_length;

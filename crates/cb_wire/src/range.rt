@@ -1,5 +1,5 @@
 //! Numbers and ranges as they are written.
-ghost use Rattle.std.specs.Prelude.{◌≡◌, ◌≤◌, ◌++◌, decimal, length};
+ghost use Rattle.std.specs.Prelude.{◌≡◌, ◌≤◌, decimal, length};
 ghost use Rattle.cb_tags.specs.Writing.{Puts};
 ghost use Rattle.cb_wire.specs.Values.{position_tree, range_tree, value_text};
 

@@ -1,15 +1,8 @@
 //! Replies, and the notifications of the server.
 ghost use Rattle.std.specs.Prelude.{◌≡◌, ◌<◌, ◌^◌, codes};
 ghost use Rattle.cb_tags.specs.Writing.{Puts};
-ghost use Rattle.cb_wire.specs.Replies.{
-  code_text,
-  error_body,
-  log_body,
-  result_body,
-  result_front,
-  result_head,
-  show_body,
-};
+ghost use Rattle.cb_wire.specs.Replies.{code_text, error_body, log_body, result_body, result_head};
+ghost use Rattle.cb_wire.specs.Replies.{show_body};
 ghost use Rattle.cb_wire.specs.Texts.{frame, part_text};
 ghost use Rattle.cb_wire.specs.Values.{range_tree, value_text};
 

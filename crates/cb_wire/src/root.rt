@@ -1,18 +1,10 @@
 //! The folder that names are relative to.
-ghost use Rattle.std.specs.Prelude.{◌≡◌, ◌++◌, ◌-◌, ◌≤◌, ◌<◌, ◌^◌, IfOk, length, take};
+ghost use Rattle.std.specs.Prelude.{◌≡◌, ◌++◌, ◌-◌, ◌≤◌, ◌<◌, ◌^◌, IfOk, length};
 ghost use Rattle.std.specs.Option.{option_map};
 ghost use Rattle.cb_tags.specs.Writing.{Puts};
 ghost use Rattle.json.specs.Print.{escape};
-ghost use Rattle.cb_wire.specs.Uris.{
-  name_below,
-  escaped,
-  escaped_path,
-  of_folder,
-  of_uri,
-  path_below,
-  uri_of,
-  without_slashes,
-};
+ghost use Rattle.cb_wire.specs.Uris.{name_below, escaped, escaped_path, of_folder, of_uri};
+ghost use Rattle.cb_wire.specs.Uris.{path_below, uri_of, without_slashes};
 
 use crate::part::{json_length, put_json, put_sized};
 use crate::uri::{

@@ -1,20 +1,10 @@
 //! File URIs, and the names of files below a root.
-ghost use Rattle.std.specs.Prelude.{◌≡◌, ◌++◌, ◌-◌, ◌*◌, ◌≤◌, IfOk, IfSome, count_by, length, not, take};
-ghost use Rattle.std.specs.Option.{option_copied};
+ghost use Rattle.std.specs.Prelude.{◌≡◌, ◌++◌, ◌-◌, ◌*◌, ◌≤◌, IfOk, IfSome, count_by, length, not};
 ghost use Rattle.std.specs.Cow.{cow_slice_items};
 ghost use Rattle.std.specs.Option.{option_map};
 ghost use Rattle.cb_tags.specs.Writing.{Puts};
-ghost use Rattle.cb_wire.specs.Uris.{
-  after,
-  begins_with_slash,
-  below,
-  escape_byte,
-  escaped,
-  escaped_path,
-  is_kept,
-  last_slashes,
-  path_of,
-};
+ghost use Rattle.cb_wire.specs.Uris.{after, begins_with_slash, below, escape_byte, escaped};
+ghost use Rattle.cb_wire.specs.Uris.{escaped_path, is_kept, last_slashes, path_of};
 
 use cb_tags::{Sink, WriteFault, put_text};
 use percent_encoding::{percent_decode, percent_encode_byte};

@@ -8,23 +8,10 @@ ghost use Rattle.cb_session.specs.Output.{row_line};
 ghost use Rattle.cbrowse.specs.Endings.{EndsJob, EndsProcess, EndsUsage, TakesWords};
 ghost use Rattle.cbrowse.specs.Lists.{WorksListed};
 ghost use Rattle.cbrowse.specs.Messages.{bounds_of, most_line_bytes, tagsfile_of};
-ghost use Rattle.cbrowse.specs.Program.{
-  IsReady,
-  RunsServer,
-  output_format,
-  output_text,
-  tags_output,
-  file_text,
-  writes_file,
-  WritesFile,
-  WritesText,
-  DoesFrom,
-  DoesJob,
-  fresh,
-  Works,
-  most_lines,
-  server_of,
-};
+ghost use Rattle.cbrowse.specs.Program.{IsReady, RunsServer, output_format, output_text};
+ghost use Rattle.cbrowse.specs.Program.{tags_output, file_text, writes_file, WritesFile};
+ghost use Rattle.cbrowse.specs.Program.{WritesText, DoesFrom, DoesJob, fresh, Works, most_lines};
+ghost use Rattle.cbrowse.specs.Program.{server_of};
 ghost use Rattle.cb_session.specs.Writing.{Puts};
 
 mod crowded;

@@ -1,5 +1,5 @@
 //! The definitions of a name, its uses and its calls, with their places.
-ghost use Rattle.std.specs.Prelude.{◌≡◌, []};
+ghost use Rattle.std.specs.Prelude.{◌≡◌};
 ghost use Rattle.std.specs.Iterator.{YieldsFirstBy, item_count};
 ghost use Rattle.std.specs.Option.{option_map};
 ghost use Rattle.cb_tags.specs.TagLines.{tag_of};

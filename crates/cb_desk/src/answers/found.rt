@@ -9,18 +9,9 @@ ghost use Rattle.cb_index.specs.Counts.{column};
 ghost use Rattle.cb_index.specs.steps.Left.{fact_of, fact_of_spot, rows_counted, spots_left};
 ghost use Rattle.cb_desk.specs.Models.{row_of};
 ghost use Rattle.cb_desk.specs.Search.{holds};
-ghost use Rattle.cb_desk.specs.steps.Lent.{
-  defined_left,
-  found_left,
-  headers_left,
-  names_left,
-  row_around,
-  row_named,
-  row_of_tag,
-  row_shown,
-  spot_row,
-  spot_text,
-};
+ghost use Rattle.cb_desk.specs.steps.Lent.{defined_left, found_left, headers_left, names_left};
+ghost use Rattle.cb_desk.specs.steps.Lent.{row_around, row_named, row_of_tag, row_shown, spot_row};
+ghost use Rattle.cb_desk.specs.steps.Lent.{spot_text};
 ghost use Rattle.cb_desk.specs.steps.LookBack.{alike};
 
 use crate::rows::{RefRow, file_row, is_header, unindented};

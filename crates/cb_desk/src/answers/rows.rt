@@ -1,19 +1,6 @@
 //! The rows that answer a question, equal ones once: by a look back at those before them.
-ghost use Rattle.std.specs.Prelude.{
-  ◌≡◌,
-  ◌≢◌,
-  ◌<◌,
-  ◌^◌,
-  ◌++◌,
-  ◌∷◌,
-  [],
-  ⊤,
-  MatchOption,
-  if◌then◌else◌,
-  length,
-  not,
-  take,
-};
+ghost use Rattle.std.specs.Prelude.{◌≡◌, ◌≢◌, ◌<◌, ◌^◌, ◌++◌, ◌∷◌, [], ⊤, MatchOption};
+ghost use Rattle.std.specs.Prelude.{if◌then◌else◌, length, not, take};
 ghost use Rattle.std.specs.Cmp.Lexicographic.{slice_cmp};
 ghost use Rattle.std.specs.Iterator.{YieldsFirstBy, item_count};
 ghost use Rattle.std.specs.List.{flat_map, list_any};
@@ -24,14 +11,8 @@ ghost use Rattle.cb_desk.specs.Models.{row_of};
 ghost use Rattle.cb_desk.specs.World.{AreValidFiles, place_key, widest_bounds};
 ghost use Rattle.cb_desk.specs.declared.rows.Field.{Field};
 ghost use Rattle.cb_desk.specs.steps.Lent.{asked_by, found_left, is_named, spot_row};
-ghost use Rattle.cb_desk.specs.steps.LookBack.{
-  HaveLineTexts,
-  IsLookBack,
-  alike,
-  news_left,
-  row_key,
-  seen,
-};
+ghost use Rattle.cb_desk.specs.steps.LookBack.{HaveLineTexts, IsLookBack, alike, news_left};
+ghost use Rattle.cb_desk.specs.steps.LookBack.{row_key, seen};
 
 use crate::answers::files::Files;
 use crate::answers::found::{DefinedRows, FactRows, FoundRows, HeaderRows, NameRows, RowSpot};

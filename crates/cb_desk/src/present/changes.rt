@@ -3,16 +3,8 @@ ghost use Rattle.std.specs.Prelude.{◌≡◌, ◌<◌, ⊤, IfOk, MatchOption, 
 ghost use Rattle.std.specs.Option.{option_map};
 ghost use Rattle.cb_index.specs.Files.{files_of};
 ghost use Rattle.cb_desk.specs.Desk.{CountsUpTo, scanned};
-ghost use Rattle.cb_desk.specs.Files.{
-  load_refusal,
-  loaded,
-  reload_refusal,
-  reloaded,
-  rename_refusal,
-  renamed,
-  unload_refusal,
-  unloaded,
-};
+ghost use Rattle.cb_desk.specs.Files.{load_refusal, loaded, reload_refusal, reloaded};
+ghost use Rattle.cb_desk.specs.Files.{rename_refusal, renamed, unload_refusal, unloaded};
 ghost use Rattle.cb_desk.specs.Marks.{mark_all_refusal, mark_refusal, toggled_at, want_refusal};
 ghost use Rattle.cb_desk.specs.Models.{step_of};
 ghost use Rattle.cb_desk.specs.Stack.{pop_refusal, push_refusal, pushed};

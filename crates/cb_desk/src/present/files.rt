@@ -8,14 +8,8 @@ ghost use Rattle.cb_index.specs.Files.{files_of};
 ghost use Rattle.cb_desk.specs.Files.{loaded, reloaded, renamed, unloaded};
 ghost use Rattle.cb_desk.specs.World.{has_file};
 ghost use Rattle.cb_desk.specs.steps.Edits.{IsDifference};
-ghost use Rattle.cb_desk.specs.steps.Plans.{
-  IsAmong,
-  IsPlan,
-  key_then,
-  name_then,
-  places_without,
-  renumbered,
-};
+ghost use Rattle.cb_desk.specs.steps.Plans.{IsAmong, IsPlan, key_then, name_then, places_without};
+ghost use Rattle.cb_desk.specs.steps.Plans.{renumbered};
 ghost use Rattle.cb_desk.specs.steps.Records.{moves, world_in};
 ghost use Rattle.cb_desk.specs.steps.Walks.{IsKept};
 

@@ -1,22 +1,7 @@
 //! Plans that leave the files as they are: those of marks, of frames and of the wanted text. Marks
 //! are in the numbers of an archive.
-ghost use Rattle.std.specs.Prelude.{
-  ◌≡◌,
-  ◌≢◌,
-  ◌<◌,
-  ◌≤◌,
-  ◌++◌,
-  [],
-  ⊤,
-  IfOk,
-  MatchOption,
-  MatchResult,
-  Some,
-  length,
-  map,
-  not,
-  slice_get,
-};
+ghost use Rattle.std.specs.Prelude.{◌≡◌, ◌≢◌, ◌<◌, ◌≤◌, ◌++◌, [], ⊤, IfOk, MatchOption};
+ghost use Rattle.std.specs.Prelude.{MatchResult, Some, length, map, not, slice_get};
 ghost use Rattle.std.specs.Cmp.Lexicographic.{slice_cmp};
 ghost use Rattle.std.specs.List.{AllByRecursion, list_any, prefix_len};
 ghost use Rattle.std.specs.Option.{option_map};
@@ -31,13 +16,8 @@ ghost use Rattle.cb_desk.specs.Stack.{places, popped, pushed};
 ghost use Rattle.cb_desk.specs.World.{IsAscending, place_key};
 ghost use Rattle.cb_desk.specs.declared.places.NumberedPlace.{NumberedPlace};
 ghost use Rattle.cb_desk.specs.steps.Plans.{AreEdits, IsPlan, with_marks, with_places};
-ghost use Rattle.cb_desk.specs.steps.Records.{
-  held_by,
-  held_numbers,
-  place_in,
-  toggled_numbers,
-  world_in,
-};
+ghost use Rattle.cb_desk.specs.steps.Records.{held_by, held_numbers, place_in, toggled_numbers};
+ghost use Rattle.cb_desk.specs.steps.Records.{world_in};
 ghost use Rattle.cb_desk.specs.steps.Still.{IsStill};
 ghost use Rattle.cb_desk.specs.steps.Texts.{bytes_if_other};
 ghost use Rattle.cb_desk.specs.steps.Walks.{IsKept};

@@ -1,20 +1,7 @@
 //! The replacement of the wanted text on the marked lines: the files that get new versions under
 //! the names that they have, and the frames of lines that are still there.
-ghost use Rattle.std.specs.Prelude.{
-  ◌≡◌,
-  ◌<◌,
-  ◌≤◌,
-  ◌+◌,
-  ◌^◌,
-  IfOk,
-  None,
-  Some,
-  false,
-  filter,
-  length,
-  map,
-  true,
-};
+ghost use Rattle.std.specs.Prelude.{◌≡◌, ◌<◌, ◌≤◌, ◌+◌, ◌^◌, IfOk, None, Some, false, filter};
+ghost use Rattle.std.specs.Prelude.{length, map, true};
 ghost use Rattle.std.specs.Cmp.Lexicographic.{slice_cmp};
 ghost use Rattle.std.specs.List.Sorted.{IsNonDecreasingBy, IsPartitionPoint, IsPermutation};
 ghost use Rattle.std.specs.Ordering.{is_lt, nat_cmp};
@@ -22,28 +9,15 @@ ghost use Rattle.cb_index.specs.Archived.{name_of};
 ghost use Rattle.cb_index.specs.Files.{AreAscending};
 ghost use Rattle.cb_index.specs.declared.entry.Shown.{Shown};
 ghost use Rattle.cb_desk.specs.Desk.{CountsUpTo, bytes_in, new_texts};
-ghost use Rattle.cb_desk.specs.Marks.{
-  replace_refusal,
-  replaced_files,
-  replaced_on_marks,
-  with_files,
-};
+ghost use Rattle.cb_desk.specs.Marks.{replace_refusal, replaced_files, replaced_on_marks};
+ghost use Rattle.cb_desk.specs.Marks.{with_files};
 ghost use Rattle.cb_desk.specs.World.{IsValidWorld, is_short};
 ghost use Rattle.cb_desk.specs.declared.present.replace.Renewal.{Renewal};
 ghost use Rattle.cb_desk.specs.steps.Edits.{IsDifference};
 ghost use Rattle.cb_desk.specs.steps.Plans.{IsPlan};
 ghost use Rattle.cb_desk.specs.steps.Records.{place_in, world_in};
-ghost use Rattle.cb_desk.specs.steps.Replaced.{
-  files_changed,
-  files_then,
-  has_mark,
-  new_of,
-  old_of,
-  renewals,
-  staying,
-  stays_in,
-  texts_of,
-};
+ghost use Rattle.cb_desk.specs.steps.Replaced.{files_changed, files_then, has_mark, new_of, old_of};
+ghost use Rattle.cb_desk.specs.steps.Replaced.{renewals, staying, stays_in, texts_of};
 ghost use Rattle.cb_desk.specs.steps.Walks.{IsKept};
 
 use crate::Refusal;

@@ -1,16 +1,5 @@
 //! Files with a text replaced on their marked lines, and new versions of them.
-ghost use Rattle.std.specs.Prelude.{
-  ◌≡◌,
-  ◌≢◌,
-  ◌≤◌,
-  [],
-  true,
-  false,
-  length,
-  filter,
-  map,
-  IfOk,
-};
+ghost use Rattle.std.specs.Prelude.{◌≡◌, ◌≢◌, ◌≤◌, [], true, false, length, filter, map, IfOk};
 ghost use Rattle.std.proofs.lemmas.Map.Keys.{IsStrictlySortedBy-prop};
 ghost use Rattle.std.specs.Cmp.Lexicographic.{slice_cmp};
 ghost use Rattle.std.specs.List.{AllByRecursion, list_any};
@@ -24,13 +13,8 @@ ghost use Rattle.cb_desk.specs.Desk.{CountsUpTo, bytes_in};
 ghost use Rattle.cb_desk.specs.Marks.{is_too_large, marked_lines, replaced_file};
 ghost use Rattle.cb_desk.specs.World.{AreAscending, File};
 ghost use Rattle.cb_desk.specs.declared.bounds.TheConstants.{MOST_BYTES};
-ghost use Rattle.cb_desk.specs.steps.Replaced.{
-  file_then,
-  files_then,
-  has_mark,
-  places_in,
-  texts_of,
-};
+ghost use Rattle.cb_desk.specs.steps.Replaced.{file_then, files_then, has_mark, places_in};
+ghost use Rattle.cb_desk.specs.steps.Replaced.{texts_of};
 
 use crate::places::NumberedPlace;
 use crate::plan::{NewVersions, scanned_source};

@@ -1,24 +1,10 @@
 //! The command line, as clap is to read it.
 ghost use Rattle.std.specs.Prelude.{◌≡◌, IfOk};
 ghost use Rattle.clap.specs.Words.{app_of, with_rule};
-ghost use Rattle.cb_words.specs.Jobs.{
-  files_rule,
-  find_app,
-  line_app,
-  list_rule,
-  listing_rule,
-  lsp_app,
-  most_rule,
-  num_rule,
-  pattern_rule,
-  prototypes_rule,
-  root_rule,
-  tagsfile_rule,
-  wide_rule,
-  with_bounds,
-  with_files,
-  with_profile,
-};
+ghost use Rattle.cb_words.specs.Jobs.{files_rule, find_app, line_app, list_rule, listing_rule};
+ghost use Rattle.cb_words.specs.Jobs.{lsp_app, most_rule, num_rule, pattern_rule, prototypes_rule};
+ghost use Rattle.cb_words.specs.Jobs.{root_rule, tagsfile_rule, wide_rule, with_bounds, with_files};
+ghost use Rattle.cb_words.specs.Jobs.{with_profile};
 ghost use Rattle.cb_words.specs.Commands.{TakesFormats, browse_app_of, tags_app_of, with_format};
 
 use crate::job::VERSION;

@@ -1,36 +1,12 @@
 //! The job of what clap found in the words.
-ghost use Rattle.std.specs.Prelude.{
-  ◌≡◌,
-  ◌≤◌,
-  ℕ,
-  IfOk,
-  MatchResult,
-  Some,
-  codes,
-  is_some,
-  map,
-  string_bytes,
-};
+ghost use Rattle.std.specs.Prelude.{◌≡◌, ◌≤◌, ℕ, IfOk, MatchResult, Some, codes, is_some, map};
+ghost use Rattle.std.specs.Prelude.{string_bytes};
 ghost use Rattle.std.specs.Option.{MatchOption, option_map};
 ghost use Rattle.clap.specs.Words.{all_of, first_of, subcommand_rows_of};
 ghost use Rattle.cb_desk.specs.World.{WorldBounds};
-ghost use Rattle.cb_words.specs.Jobs.{
-  AreBoundsOf,
-  IsJobOf,
-  Writes,
-  all_or_none,
-  field_of,
-  first_or,
-  format_number,
-  history_of,
-  is_absolute,
-  is_set,
-  list_in,
-  most_files,
-  names_files,
-  rules_in,
-  reads_input,
-};
+ghost use Rattle.cb_words.specs.Jobs.{AreBoundsOf, IsJobOf, Writes, all_or_none, field_of};
+ghost use Rattle.cb_words.specs.Jobs.{first_or, format_number, history_of, is_absolute, is_set};
+ghost use Rattle.cb_words.specs.Jobs.{list_in, most_files, names_files, rules_in, reads_input};
 ghost use Rattle.cb_words.specs.Usages.{IsBadSearch};
 ghost use Rattle.cb_words.specs.declared.job.Job.{Job};
 ghost use Rattle.cb_desk.specs.declared.rows.Format.{Format};

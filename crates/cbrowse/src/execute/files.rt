@@ -1,27 +1,8 @@
 //! The files of the program: operands that are read, and a tags file that is written.
-ghost use Rattle.std.specs.Prelude.{
-  ◌≡◌,
-  ◌<◌,
-  ◌^◌,
-  [],
-  IfOk,
-  IfErr,
-  IfSome,
-  IsTrue,
-  MatchResult,
-  map,
-  string_bytes,
-  take,
-};
-ghost use Rattle.cbrowse.specs.Program.{
-  MakesNone,
-  MayWrite,
-  StopsReading,
-  is_source_name,
-  most_read,
-  names_of,
-  opening,
-};
+ghost use Rattle.std.specs.Prelude.{◌≡◌, ◌<◌, ◌^◌, [], IfOk, IfErr, IfSome, IsTrue, MatchResult};
+ghost use Rattle.std.specs.Prelude.{map, string_bytes, take};
+ghost use Rattle.cbrowse.specs.Program.{MakesNone, MayWrite, StopsReading, is_source_name};
+ghost use Rattle.cbrowse.specs.Program.{most_read, names_of, opening};
 
 use crate::execute::finish::Finish;
 use cb_desk::Bounds;

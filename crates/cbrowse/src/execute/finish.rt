@@ -3,30 +3,11 @@ ghost use Rattle.std.specs.Prelude.{◌≡◌, ◌<◌, [], map, string_bytes};
 ghost use Rattle.std.specs.List.{slice_index_or};
 ghost use Rattle.std.specs.Option.{option_map};
 ghost use Rattle.cb_tags.specs.Writing.{Puts};
-ghost use Rattle.cbrowse.specs.Messages.{
-  Says,
-  error_line,
-  fault_line,
-  file_line,
-  hex_digit,
-  is_plain,
-  told_byte,
-  told_name,
-  bounds_of,
-  files_of,
-  list_name,
-  list_of,
-  most_line_bytes,
-  tagsfile_of,
-  run_said,
-  said_of,
-  server_said,
-  server_status,
-  run_status,
-  status_of,
-  usage_status,
-  usage_said,
-};
+ghost use Rattle.cbrowse.specs.Messages.{Says, error_line, fault_line, file_line, hex_digit};
+ghost use Rattle.cbrowse.specs.Messages.{is_plain, told_byte, told_name, bounds_of, files_of};
+ghost use Rattle.cbrowse.specs.Messages.{list_name, list_of, most_line_bytes, tagsfile_of};
+ghost use Rattle.cbrowse.specs.Messages.{run_said, said_of, server_said, server_status, run_status};
+ghost use Rattle.cbrowse.specs.Messages.{status_of, usage_status, usage_said};
 
 use cb_desk::Bounds;
 use cb_lsp::{Ending, RunFault};

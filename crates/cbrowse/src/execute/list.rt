@@ -1,31 +1,9 @@
 //! The list of a job: a file, or standard input, with the names of more files.
-ghost use Rattle.std.specs.Prelude.{
-  ◌≡◌,
-  ◌≤◌,
-  ◌<◌,
-  ◌++◌,
-  ◌∷◌,
-  [],
-  Ok,
-  true,
-  MatchResult,
-  length,
-  map,
-  string_bytes,
-  vec_capacity,
-};
-ghost use Rattle.cb_session.specs.declared.input.Ended.TheVariants.{Fault as Failed};
-ghost use Rattle.cb_session.specs.declared.input.Fault.TheVariants.{Memory};
+ghost use Rattle.std.specs.Prelude.{◌≡◌, ◌≤◌, ◌<◌, ◌++◌, ◌∷◌, [], Ok, true, MatchResult, length};
+ghost use Rattle.std.specs.Prelude.{map, string_bytes, vec_capacity};
 ghost use Rattle.cb_words.specs.Jobs.{is_standard_input, most_file_bytes};
-ghost use Rattle.cbrowse.specs.Lists.{
-  HasMore,
-  HasNoList,
-  IsListText,
-  IsNoList,
-  LacksList,
-  TakesList,
-  names_in,
-};
+ghost use Rattle.cbrowse.specs.Lists.{HasMore, HasNoList, IsListText, IsNoList, LacksList};
+ghost use Rattle.cbrowse.specs.Lists.{TakesList, names_in};
 ghost use Rattle.cbrowse.specs.Messages.{list_of};
 
 use crate::execute::files::{OUT_OF_MEMORY, path_of, read_file};
