@@ -1,41 +1,31 @@
 -- A text has few facts.
-use Rattle.std.proofs.Common.{ap, refl, ℕ, zero, suc, ◌+◌, ◌-◌, ◌*◌, ◌≤◌, ◌<◌, Bool, true, false}
-use Rattle.std.proofs.Common.{not, cond, List, [], ◌∷◌, ◌++◌, map, filter, length, length-append}
+use Rattle.std.proofs.Common.{refl, ℕ, zero, suc, ◌+◌, ◌-◌, ◌*◌, ◌≤◌, Bool, true, false}
+use Rattle.std.proofs.Common.{not, cond, List, [], ◌∷◌, map, filter, length, length-append}
 use Rattle.std.proofs.Common.{Option, Some, None, arith, suc-mul}
-use Rattle.std.specs.Prelude.{◌&&◌, ◌==◌, find, nat_lt}
+use Rattle.std.specs.Prelude.{find, nat_lt}
 use Rattle.std.specs.List.{AllByRecursion, flat_map, onto_first, range_with_len, slice_split}
 use Rattle.std.specs.Option.{option_map_or, unwrap_or}
 use Rattle.std.proofs.lemmas.List.{length-map}
-use Rattle.std.proofs.lemmas.List.Concat.{flat_map-append}
 use Rattle.std.proofs.lemmas.List.Filters.{length-filter_both}
-use Rattle.std.proofs.lemmas.List.FromFn.{length-range_with_len}
-use Rattle.cb_scan.specs.declared.facts.Call.{Call}
 use Rattle.cb_scan.specs.declared.facts.Include.{Include}
-use Rattle.cb_scan.specs.declared.facts.Use.{Use}
 use Rattle.cb_scan.specs.declared.lex.piece.Piece.{Piece}
-use Rattle.cb_scan.specs.declared.lex.piece.Span.{Span}
 use Rattle.cb_scan.specs.declared.lex.token.Token.{Token}
-use Rattle.cb_scan.specs.Bytes.{close_paren, greater, less}
+use Rattle.cb_scan.specs.Bytes.{greater, less}
 use Rattle.cb_scan.specs.Definitions.{calls, facts_of}
-use Rattle.cb_scan.specs.Order.{call_key}
-use Rattle.cb_scan.specs.lex.Tokens.{has_kind, is_any_word, is_mark, is_name_token, is_significant}
+use Rattle.cb_scan.specs.lex.Tokens.{has_kind, is_mark, is_significant}
 use Rattle.cb_scan.specs.lex.Tokens.{is_str, kind_is_include, token_of, tokens}
-use Rattle.cb_scan.specs.rules.Code.{code, directives, is_directive, is_newline, logical_lines}
-use Rattle.cb_scan.specs.rules.Depth.{closes, depth, is_counted, token_at}
-use Rattle.cb_scan.specs.rules.Functions.{Function, close_from, function_at, function_from, functions, signature}
-use Rattle.cb_scan.specs.rules.Heads.{Signature}
-use Rattle.cb_scan.specs.rules.Macros.{Macro, after_arguments, defines_macro, macro_of, macros}
+use Rattle.cb_scan.specs.rules.Code.{directives, is_directive, is_newline, logical_lines}
+use Rattle.cb_scan.specs.rules.Depth.{closes}
+use Rattle.cb_scan.specs.rules.Functions.{close_from}
 use Rattle.cb_scan.specs.rules.Scope.{scope}
-use Rattle.cb_scan.specs.rules.Uses.{after_own_word, angle_header, call_at, call_of, calls_among}
-use Rattle.cb_scan.specs.rules.Uses.{calls_of_function, function_calls, header_between, header_of}
-use Rattle.cb_scan.specs.rules.Uses.{include_of, includes, is_call, is_include, macro_calls}
-use Rattle.cb_scan.specs.rules.Uses.{string_header, usable, used, uses}
+use Rattle.cb_scan.specs.rules.Uses.{angle_header}
+use Rattle.cb_scan.specs.rules.Uses.{header_between, header_of}
+use Rattle.cb_scan.specs.rules.Uses.{include_of, includes}
+use Rattle.cb_scan.specs.rules.Uses.{string_header, uses}
 use Rattle.cb_scan.specs.lex.Tokens.{bytes_of}
 use Rattle.cb_scan.specs.steps.Cut.{pieces}
 use Rattle.cb_scan.specs.steps.Quote.{is_closed}
-use Rattle.cb_scan.proofs.OrderLemmas.{length_in_order}
 use Rattle.cb_scan.proofs.PieceLists.{length-pieces}
-use Rattle.cb_scan.proofs.WithinLemmas.{all-append}
 
 -- ---- lists
 length-kept : {X : Type 0} (p : X → Bool) (xs : List X) → length (filter p xs) ≤ length xs
@@ -51,12 +41,6 @@ module _ {X Y : Type 0} (f : X → List Y) (k : ℕ) where
 all-each : {X : Type 0} (P : X → Type 0) → ((x : X) → P x) → (xs : List X) → AllByRecursion P xs
 all-each P holds [] = tt
 all-each P holds (x ∷ xs) = (holds x, all-each P holds xs)
-
-one-each : {Y : Type 0} (f : ℕ → List Y) → ((n : ℕ) → length (f n) ≤ 1) → (first n : ℕ)
-    → length (flat_map f (range_with_len first n)) ≤ n
-one-each f each first n =
-    let few = flat-few f 1 (range_with_len first n) (all-each (λ m. length (f m) ≤ 1) each (range_with_len first n)) in
-    omega (arith, few, length-range_with_len first n)
 
 abbrev joined : {X : Type 0} → List (List X) → List X
 joined ls = flat_map (λ l. l) ls
@@ -120,40 +104,6 @@ module _ (text : List ℕ) where
         length-pieces 0 text,
       )
 
--- ---- uses
-own-word-few : (l : List Token) → length (after_own_word l) ≤ length l
-own-word-few [] = omega arith
-own-word-few (h ∷ []) = omega arith
-own-word-few (h ∷ o ∷ l) =
-    elim (is_any_word o.role) as (λ b. length (cond b l (o ∷ l)) ≤ length (h ∷ o ∷ l))
-    [ true ↦ omega arith | false ↦ omega arith ]
-
-usable-few : (l : List Token) → length (usable l) ≤ length l
-usable-few l =
-    let own = own-word-few l in
-    elim (is_directive l) as (λ b. length (cond b (cond (is_include l) [] (after_own_word l)) l) ≤ length l) [
-      | true ↦ elim (is_include l) as (λ b. length (cond b [] (after_own_word l)) ≤ length l)
-          [ true ↦ omega arith | false ↦ own ]
-      | false ↦ omega arith
-    ]
-
-used-few : (l : List Token) → length (used l) ≤ length l
-used-few l = omega (arith, length-kept (λ (t : Token). is_name_token t.role) (usable l), usable-few l)
-
-abbrev use_at : List ℕ → Token → Use
-use_at text t = record { name = t.span; line = t.line; scope = scope text (pieces text) t.span.start }
-
-pub uses-few : (text : List ℕ) → length (facts_of text).uses ≤ length text
-unfolding uses
-uses-few text =
-    omega (
-      arith,
-      length-map (flat_map used (lines text)) (use_at text),
-      flat-below used used-few
-          (lines text),
-      lines-few text,
-    )
-
 -- ---- includes
 between-few : (start end line : ℕ) → length (header_between start end line) ≤ 1
 between-few start end line =
@@ -209,8 +159,6 @@ includes-few text =
     )
 
 -- ---- calls
-code-few : (text : List ℕ) → length (code text (ps text)) ≤ length text
-code-few text = omega (arith, joined-kept (λ l. not (is_directive l)) (lines text), lines-few text)
 
 found-below : (test : ℕ → Bool) (k n limit : ℕ) → k + n ≤ limit
     → unwrap_or (find test (range_with_len k n)) limit ≤ limit
@@ -225,139 +173,3 @@ found-below test k (suc n) limit within =
 module _ (ts : List Token) where
   close-below : (k : ℕ) → k ≤ length ts → close_from ts k ≤ length ts
   close-below k within = found-below (closes ts) k (length ts - k) (length ts) (omega (arith, within))
-
-  from-ends : (k : ℕ) → k < length ts → (s : Option Signature)
-      → AllByRecursion (λ (f : Function). f.end ≤ length ts) (function_from ts k s)
-  from-ends k within None = tt
-  from-ends k within (Some s) = (close-below (suc k) (omega (arith, within)), tt)
-
-  ends-below : (k : ℕ) → k < length ts → AllByRecursion (λ (f : Function). f.end ≤ length ts) (function_at ts k)
-  ends-below k within =
-      elim (is_counted ts k && depth ts k == 0) as (λ b. AllByRecursion
-      (λ (f : Function). f.end ≤ length ts) (cond b (function_from ts k (signature ts k)) [])) [
-        | true ↦ from-ends k within (signature ts k)
-        | false ↦ tt
-      ]
-
-  all-ends : (k n : ℕ) → k + n ≤ length ts
-      → AllByRecursion (λ (f : Function). f.end ≤ length ts)
-      (flat_map (function_at ts) (range_with_len k n))
-  all-ends k zero within = tt
-  all-ends k (suc n) within =
-      all-append (λ (f : Function). f.end ≤ length ts) (function_at ts k)
-      (flat_map (function_at ts) (range_with_len (k + 1) n))
-      (ends-below k (omega (arith, within))) (all-ends (k + 1) n (omega (arith, within)))
-
-  from-one : (k : ℕ) (s : Option Signature) → length (function_from ts k s) ≤ 1
-  from-one k None = omega arith
-  from-one k (Some s) = omega arith
-
-  function-one : (k : ℕ) → length (function_at ts k) ≤ 1
-  function-one k =
-      let few = from-one k (signature ts k) in
-      elim (is_counted ts k && depth ts k == 0) as
-      (λ b. length (cond b (function_from ts k (signature ts k)) []) ≤ 1)
-      [ true ↦ few | false ↦ omega arith ]
-
-  call-one : (caller : Span) (k : ℕ) → length (call_at ts caller k) ≤ 1
-  call-one caller k =
-      elim (is_call (token_at ts k) (token_at ts (suc k))) as
-      (λ b. length (cond b (call_of caller (token_at ts k) ∷ []) []) ≤ 1)
-      [ true ↦ omega arith | false ↦ omega arith ]
-
-  body-few : (f : Function) → f.end ≤ length ts → length (calls_of_function ts f) ≤ length ts
-  body-few f within = omega (
-    arith,
-    one-each (call_at ts f.name.span) (call-one f.name.span) f.body
-        (f.end - f.body),
-    within,
-  )
-
-  bodies-few : (fs : List Function) → AllByRecursion (λ (f : Function). f.end ≤ length ts) fs
-      → AllByRecursion (λ (f : Function). length (calls_of_function ts f) ≤ length ts) fs
-  bodies-few [] all = tt
-  bodies-few (f ∷ fs) all = (body-few f all.0, bodies-few fs all.1)
-
-  functions-few : length (functions ts) ≤ length ts
-  functions-few = one-each (function_at ts) function-one 0 (length ts)
-
-  function-calls-few : length (function_calls ts) ≤ length (functions ts) * length ts
-  function-calls-few =
-      flat-few (calls_of_function ts) (length ts) (functions ts)
-      (bodies-few (functions ts) (all-ends 0 (length ts) (omega arith)))
-
-arguments-few : (l : List Token) → length (after_arguments l) ≤ length l
-unfolding after_arguments
-arguments-few [] = omega arith
-arguments-few (t ∷ l) =
-    let later = arguments-few l in
-    elim (is_mark close_paren t.role) as
-    (λ b. length (cond b l (after_arguments l)) ≤ length (t ∷ l))
-    [ true ↦ omega arith | false ↦ omega (arith, later) ]
-
-among-few : (caller : Span) (l : List Token) → length (calls_among caller l) ≤ length l
-unfolding calls_among
-among-few caller [] = omega arith
-among-few caller (t ∷ []) = omega arith
-among-few caller (t ∷ u ∷ l) =
-    let later = among-few caller (u ∷ l) in
-    elim (is_call t u) as (λ b. length
-    (cond b (call_of caller t ∷ calls_among caller (u ∷ l))
-    (calls_among caller (u ∷ l))) ≤ length (t ∷ u ∷ l)) [
-      | true ↦ omega (arith, later)
-      | false ↦ omega (arith, later)
-    ]
-
-abbrev calls_in_macro : Macro → List Call
-calls_in_macro m = calls_among m.name.span m.body
-
-macro-few : (l : List Token) → length (flat_map calls_in_macro (macro_of l)) ≤ length l
-macro-few [] = omega arith
-macro-few (h ∷ []) = omega arith
-macro-few (h ∷ o ∷ []) = omega arith
-macro-few (h ∷ o ∷ n ∷ []) = omega arith
-macro-few (h ∷ o ∷ n ∷ p ∷ l) =
-    let body = among-few n.span (after_arguments l) in
-    let rest = arguments-few l in
-    elim (defines_macro o n p) as (λ b. length (flat_map calls_in_macro (cond b ((record {
-      name = n;
-      body = after_arguments l;
-    }) ∷ []) [])) ≤ length (h ∷ o ∷ n ∷ p ∷ l)) [
-      | true ↦ omega (arith, length-append (calls_among n.span (after_arguments l)) [], body, rest)
-      | false ↦ omega arith
-    ]
-
-macros-few : (ls : List (List Token)) → length (flat_map calls_in_macro (flat_map macro_of ls)) ≤ length (joined ls)
-macros-few [] = omega arith
-macros-few (l ∷ ls) =
-    let e = ap length (flat_map-append calls_in_macro (macro_of l) (flat_map macro_of ls)) in
-    omega (
-      arith,
-      e,
-      length-append (flat_map calls_in_macro (macro_of l))
-          (flat_map calls_in_macro (flat_map macro_of ls)),
-      length-append l (joined ls),
-      macro-few l,
-      macros-few ls,
-    )
-
-square : (a b n : ℕ) → a ≤ n → b ≤ n → a * b ≤ n * n
-square a b n = grind arith
-
--- no more calls than bytes of the text, and their square
-pub calls-few : (text : List ℕ) → length (facts_of text).calls ≤ length text * length text + length text
-unfolding calls
-calls-few text =
-    let ts = code text (ps text) in
-    let few = square (length (functions ts)) (length ts) (length text)
-    (omega (arith, functions-few ts, code-few text)) (code-few text) in
-    omega (
-      arith,
-      length_in_order call_key (function_calls ts ++ macro_calls (macros text (ps text))),
-      length-append (function_calls ts) (macro_calls (macros text (ps text))),
-      function-calls-few ts,
-      few,
-      macros-few (directives text (ps text)),
-      joined-kept is_directive (lines text),
-      lines-few text,
-    )

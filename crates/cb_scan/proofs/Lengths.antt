@@ -79,10 +79,6 @@ pub blank-step : (j : Bool) (b : ℕ) (rest : List ℕ) → goes_on_blank j b re
 unfolding blank_len
 blank-step j b rest t = cond-true _ _ _ t
 
-pub blank-feed : (rest : List ℕ) → blank_len true (10 ∷ rest) ≡ suc (blank_len false rest)
-unfolding blank_len
-blank-feed rest = refl
-
 pub blank-join : (j : Bool) (rest : List ℕ) → blank_len j (92 ∷ 10 ∷ rest) ≡ suc (suc (blank_len false rest))
 unfolding blank_len ends_join
 blank-join true rest = refl

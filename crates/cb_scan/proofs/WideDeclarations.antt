@@ -10,7 +10,7 @@ use Rattle.cb_scan.specs.declared.rules.wide.part.Part.{Part}
 use Rattle.cb_scan.specs.declared.rules.wide.token.WideToken.{WideToken}
 use Rattle.cb_scan.specs.rules.Typedefs.{nesting_after}
 use Rattle.cb_scan.specs.rules.wide.Declarations as rules
-use Rattle.cb_scan.specs.rules.wide.Declarations.{but_last, defines_type, ended_parts, ends_part, has_stray}
+use Rattle.cb_scan.specs.rules.wide.Declarations.{but_last, defines_type, ends_part, has_stray}
 use Rattle.cb_scan.specs.rules.wide.Declarations.{has_value, is_extern_part, is_static_part, naming_parts}
 use Rattle.cb_scan.specs.rules.wide.Declarations.{part_after}
 use Rattle.cb_scan.specs.rules.wide.Levels.{Numbered, is_byte, is_outer, is_outer_byte, numbered}
@@ -148,12 +148,6 @@ ends_same d x = by_tests (is_sign 59 x.role) (d.count == 0 && is_sign 44 x.role)
     by_tests true false = refl
     by_tests false true = refl
     by_tests false false = refl
-
--- what a token outside tells, and one inside
-noted_as : (b o t : Bool) → (b || (o && t)) ≡ (if o then b || t else b)
-noted_as b true t = refl
-noted_as true false t = refl
-noted_as false false t = refl
 
 type_after : (o : Bool) (d : Declaration) (x : WideToken)
     → (if o then noted d x else d).has_typedef ≡ (d.has_typedef || (o && is_typedef_word x.role))

@@ -13,9 +13,9 @@ use Rattle.cb_scan.specs.rules.wide.Words.{role_from}
 use Rattle.cb_scan.specs.steps.wide.Contents.{are_in_block}
 use Rattle.cb_scan.specs.steps.wide.Openings.{next_opening}
 use Rattle.cb_scan.specs.steps.wide.Pass.{Taken, is_brace, take_first}
-use Rattle.cb_scan.specs.steps.wide.Reading.{all_taken, item_of, opened_by, passed, read_on}
-use Rattle.cb_scan.specs.steps.wide.Reading.{reader_after, taken_after, taken_on, turned}
-use Rattle.cb_scan.specs.steps.wide.Sights.{sight_opening, sight_start}
+use Rattle.cb_scan.specs.steps.wide.Reading.{all_taken, item_of, opened_by, passed}
+use Rattle.cb_scan.specs.steps.wide.Reading.{taken_after, taken_on}
+use Rattle.cb_scan.specs.steps.wide.Sights.{sight_opening}
 use Rattle.cb_scan.specs.steps.wide.Tokens.{token_after}
 use Rattle.cb_scan.proofs.WideBlocks.{lists_in_block, pass_in_block}
 
@@ -47,11 +47,6 @@ module _ (text : List ℕ) (r : Reader) (t : Taken) (token : Token)
   none_opens o = ap (λ k. next_opening o (record (item_of text r token) {
     role = role_from k (bytes_of text token.span);
   })) (mark_is 59 token.role semicolon)
-
-  pub reader_ended : record (passed r token) { sight = sight_start } ≡ reader_after text r t token
-  reader_ended =
-      sym (λ i. if ends i then turned (block i) (passed r token)
-      else read_on (block i) (passed r token) (item_of text r token))
 
   pub taken_ended : record t { pass = record t.pass { opening = None } }
       ≡ taken_after text r t token

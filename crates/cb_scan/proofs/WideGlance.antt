@@ -30,7 +30,7 @@ use Rattle.cb_scan.specs.steps.wide.Contents.{are_in_block}
 use Rattle.cb_scan.specs.steps.wide.Pass.{Taken, take_first}
 use Rattle.cb_scan.specs.steps.wide.Reading.{all_taken, is_mark_of_blocks, item_of, passed, read_on}
 use Rattle.cb_scan.specs.steps.wide.Reading.{reader_after, taken_after, taken_on, turned}
-use Rattle.cb_scan.specs.steps.wide.Sights.{is_early, is_idle, look, open_in_phase, paren_after}
+use Rattle.cb_scan.specs.steps.wide.Sights.{is_early, is_idle, look, paren_after}
 use Rattle.cb_scan.specs.steps.wide.Sights.{phase_past, phase_past_other, phase_past_paren}
 use Rattle.cb_scan.specs.steps.wide.Sights.{phase_past_word, seen_after}
 use Rattle.cb_scan.specs.steps.wide.Tokens.{token_after}
@@ -183,46 +183,6 @@ unfolding Gives
 glance_is text b s t q is_ e =
     glanced s.opening s.before s.phase q (token_after text b t) is_
     (λ early. past t (token_after text b t).counted s.phase early t.role (bytes_of text t.span) q e)
-
--- no attribute has begun then
-word_open : (k : WordKind) (bytes : List ℕ) (q : Phase) → phase_past_word k bytes ≡ Some q
-    → open_in_phase q ≡ 0
-word_open kind.Name bytes q e = sym (ap open_in_phase (some_is (Word false) q e))
-word_open kind.Define bytes q e = sym (ap open_in_phase (some_is (Word false) q e))
-word_open kind.Include bytes q e = sym (ap open_in_phase (some_is (Word false) q e))
-word_open kind.Typedef bytes q e = sym (ap open_in_phase (some_is (Word false) q e))
-word_open kind.Extern bytes q e = sym (ap open_in_phase (some_is (Word false) q e))
-word_open kind.Static bytes q e = sym (ap open_in_phase (some_is (Word false) q e))
-word_open kind.Struct bytes q e = absurd (none_is_none q e)
-word_open kind.Union bytes q e = absurd (none_is_none q e)
-word_open kind.Enum bytes q e = absurd (none_is_none q e)
-word_open kind.Reserved bytes q e =
-    sym (ap open_in_phase (some_is (Word (is_among attribute_words bytes)) q e))
-
-paren_open : (p q : Phase) → phase_past_paren p ≡ Some q → open_in_phase q ≡ 0
-paren_open Clear q e = sym (ap open_in_phase (some_is Clear q e))
-paren_open (Word true) q e = sym (ap open_in_phase (some_is (Inside 0) q e))
-paren_open (Word false) q e = sym (ap open_in_phase (some_is Paren q e))
-paren_open Paren q e = sym (ap open_in_phase (some_is Clear q e))
-paren_open (Inside n) q e = absurd (none_is_none q e)
-
-other_open : (p q : Phase) → phase_past_other p ≡ Some q → open_in_phase q ≡ 0
-other_open Clear q e = sym (ap open_in_phase (some_is Clear q e))
-other_open (Word b) q e = sym (ap open_in_phase (some_is Clear q e))
-other_open Paren q e = absurd (none_is_none q e)
-other_open (Inside n) q e = absurd (none_is_none q e)
-
-pub none_open : (p : Phase) (r : Role) (bytes : List ℕ) (q : Phase)
-    → phase_past p r bytes ≡ Some q → open_in_phase q ≡ 0
-none_open p (role.Word k) bytes q e = word_open k bytes q e
-none_open p (role.Mark b) bytes q e =
-    ⊎_elim
-    (λ is. paren_open p q (sym (ap (λ o. if o then phase_past_paren p else Some Clear) is) ∙ e))
-    (λ isnt. sym (ap open_in_phase
-    (some_is Clear q (sym (ap (λ o. if o then phase_past_paren p else Some Clear) isnt) ∙ e))))
-    (cases_Bool (b == 40))
-none_open p role.Str bytes q e = other_open p q e
-none_open p role.Other bytes q e = other_open p q e
 
 -- ---- a token in a block
 module _ (text : List ℕ) (r : Reader) (t : Taken) (token : Token)

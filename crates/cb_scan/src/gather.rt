@@ -5,23 +5,12 @@ ghost use Rattle.cb_scan.specs.lex.Tokens.{is_mark};
 ghost use Rattle.cb_scan.specs.declared.source.TheConstants.{MOST_BYTES};
 ghost use Rattle.cb_scan.specs.Profiles.{kept};
 ghost use Rattle.std.specs.Option.{option_to_list};
-ghost use Rattle.cb_scan.specs.steps.Directives.{
-  include_out,
-  macro_call_out,
-  macro_out,
-  next_stage,
-  range_finish,
-  use_out,
-};
+ghost use Rattle.cb_scan.specs.steps.Directives.{include_out, macro_call_out, macro_out};
+ghost use Rattle.cb_scan.specs.steps.Directives.{next_stage, range_finish, use_out};
 ghost use Rattle.cb_scan.specs.steps.Functions.{called, closed, found, left_open, next};
 ghost use Rattle.cb_scan.specs.steps.Structures.{next_naming, structure_found};
-ghost use Rattle.cb_scan.specs.steps.Typedefs.{
-  ends,
-  nesting_of,
-  next_declaration,
-  next_pending,
-  typedefs_out,
-};
+ghost use Rattle.cb_scan.specs.steps.Typedefs.{ends, nesting_of, next_declaration, next_pending};
+ghost use Rattle.cb_scan.specs.steps.Typedefs.{typedefs_out};
 
 use crate::facts::{Call, Def, Include};
 use crate::lex::token::{Role, Token};

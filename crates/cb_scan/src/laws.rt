@@ -10,17 +10,9 @@ ghost use Rattle.cb_scan.specs.Definitions.{IsNameOf};
 ghost use Rattle.cb_scan.specs.lex.Pieces.{IsPieces, Adjoin, LiesIn};
 ghost use Rattle.cb_scan.specs.lex.Lexeme.{IsClosedLiteral};
 ghost use Rattle.cb_scan.specs.Order.{AreInOrder};
-ghost use Rattle.cb_scan.specs.Profiles.{
-  all_facts,
-  definitions_by,
-  facts_by,
-  facts_in,
-  include_alone,
-  use_alone,
-  IsBesideFunctions,
-  IsCallOnItsLine,
-  IsUseOnItsLine,
-};
+ghost use Rattle.cb_scan.specs.Profiles.{all_facts, definitions_by, facts_by, facts_in};
+ghost use Rattle.cb_scan.specs.Profiles.{include_alone, use_alone, IsBesideFunctions};
+ghost use Rattle.cb_scan.specs.Profiles.{IsCallOnItsLine, IsUseOnItsLine};
 ghost use Rattle.cb_scan.specs.steps.Cut.{pieces};
 ghost use Rattle.cb_scan.specs.steps.Quote.{is_closed};
 

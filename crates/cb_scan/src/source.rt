@@ -1,19 +1,6 @@
 //! A text and its lines.
-ghost use Rattle.std.specs.Prelude.{
-  ◌≡◌,
-  ◌≤◌,
-  ◌<◌,
-  ◌-◌,
-  ◌+◌,
-  ◌^◌,
-  ◌↔◌,
-  length,
-  vec_len,
-  IfOk,
-  nat_le,
-  slice_get,
-  None,
-};
+ghost use Rattle.std.specs.Prelude.{◌≡◌, ◌≤◌, ◌<◌, ◌-◌, ◌+◌, ◌^◌, ◌↔◌, length, vec_len, IfOk};
+ghost use Rattle.std.specs.Prelude.{nat_le, slice_get, None};
 ghost use Rattle.cb_scan.specs.declared.source.TheConstants.{MOST_BYTES};
 ghost use Rattle.std.specs.Option.{option_copied};
 ghost use Rattle.bstr.specs.Text.{lines_of, without_terminator};

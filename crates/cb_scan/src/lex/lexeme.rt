@@ -3,23 +3,10 @@ ghost use Rattle.std.specs.Prelude.{◌≡◌, ◌<◌, ◌≤◌, false, ◌==�
 ghost use Rattle.std.specs.List.{prefix_len};
 ghost use Rattle.cb_scan.specs.lex.Lexeme.{is_digit, is_letter, is_word, goes_on, first_is};
 ghost use Rattle.cb_scan.specs.steps.Lanes.{ends_blank};
-ghost use Rattle.cb_scan.specs.steps.Cut.{
-  begins,
-  ends_join,
-  is_alone,
-  class_at,
-  first_code,
-  number_len,
-  blank_len,
-  comment_escape,
-  ends_comment,
-  comment_len,
-  literal_escape,
-  ends_literal,
-  literal_len,
-  block_len,
-  length_in,
-};
+ghost use Rattle.cb_scan.specs.steps.Cut.{begins, ends_join, is_alone, class_at, first_code};
+ghost use Rattle.cb_scan.specs.steps.Cut.{number_len, blank_len, comment_escape, ends_comment};
+ghost use Rattle.cb_scan.specs.steps.Cut.{comment_len, literal_escape, ends_literal, literal_len};
+ghost use Rattle.cb_scan.specs.steps.Cut.{block_len, length_in};
 
 use crate::lex::lanes::{LANES, space_run, word_run};
 use crate::lex::piece::Class;

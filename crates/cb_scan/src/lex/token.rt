@@ -1,16 +1,7 @@
 //! Tokens: the pieces that the rules on definitions speak of, each with what it is for them.
 ghost use Rattle.std.specs.Prelude.{◌≡◌, ◌≤◌, ◌<◌, length};
-ghost use Rattle.cb_scan.specs.lex.Tokens.{
-  is_any_word,
-  is_mark,
-  is_name_token,
-  is_static,
-  is_typedef,
-  name_kind,
-  role_of,
-  starts_line,
-  word_of,
-};
+ghost use Rattle.cb_scan.specs.lex.Tokens.{is_any_word, is_mark, is_name_token, is_static};
+ghost use Rattle.cb_scan.specs.lex.Tokens.{is_typedef, name_kind, role_of, starts_line, word_of};
 ghost use Rattle.cb_scan.specs.steps.Lined.{Within};
 ghost use Rattle.cb_scan.specs.steps.Directives.{lined_token};
 ghost use Rattle.cb_scan.specs.steps.Words.{may_begin, may_mean};

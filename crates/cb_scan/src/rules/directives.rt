@@ -3,24 +3,11 @@ ghost use Rattle.std.specs.Prelude.{◌≡◌, ◌≤◌, ◌<◌, ◌&&◌, len
 ghost use Rattle.cb_scan.specs.declared.source.TheConstants.{MOST_BYTES};
 ghost use Rattle.std.specs.Option.{option_to_list};
 ghost use Rattle.cb_scan.specs.lex.Tokens.{is_name_token};
-ghost use Rattle.cb_scan.specs.steps.Directives.{
-  body_call,
-  directive_of,
-  header_found,
-  include_out,
-  is_code,
-  macro_call,
-  macro_ended,
-  macro_found,
-  macro_named,
-  names_count,
-  next_defining,
-  next_directive,
-  next_including,
-  next_stage,
-  opens_arguments,
-  range_ended,
-};
+ghost use Rattle.cb_scan.specs.steps.Directives.{body_call, directive_of, header_found};
+ghost use Rattle.cb_scan.specs.steps.Directives.{include_out, is_code, macro_call, macro_ended};
+ghost use Rattle.cb_scan.specs.steps.Directives.{macro_found, macro_named, names_count};
+ghost use Rattle.cb_scan.specs.steps.Directives.{next_defining, next_directive, next_including};
+ghost use Rattle.cb_scan.specs.steps.Directives.{next_stage, opens_arguments, range_ended};
 
 use crate::facts::{Call, Def, Include, Kind};
 use crate::lex::piece::Span;

@@ -2,21 +2,9 @@
 ghost use Rattle.std.specs.Prelude.{◌≡◌, ◌+◌, ◌<◌, ◌≤◌, ◌^◌, false};
 ghost use Rattle.cb_scan.specs.Bytes.{close_brace, open_brace};
 ghost use Rattle.cb_scan.specs.lex.Tokens.{is_mark};
-ghost use Rattle.cb_scan.specs.steps.Functions.{
-  before_after,
-  called,
-  closed,
-  counts,
-  found,
-  grown,
-  left_open,
-  next,
-  next_body,
-  next_depth,
-  next_open,
-  start,
-  stops,
-};
+ghost use Rattle.cb_scan.specs.steps.Functions.{before_after, called, closed, counts, found, grown};
+ghost use Rattle.cb_scan.specs.steps.Functions.{left_open, next, next_body, next_depth, next_open};
+ghost use Rattle.cb_scan.specs.steps.Functions.{start, stops};
 ghost use Rattle.cb_scan.specs.steps.Typedefs.{ends};
 
 use crate::facts::{Call, Def};

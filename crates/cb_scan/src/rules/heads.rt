@@ -2,20 +2,9 @@
 ghost use Rattle.std.specs.Prelude.{◌≡◌, ◌||◌};
 ghost use Rattle.cb_scan.specs.Bytes.{equals};
 ghost use Rattle.cb_scan.specs.lex.Tokens.{is_mark, is_static};
-ghost use Rattle.cb_scan.specs.steps.Heads.{
-  add,
-  called_after,
-  calls_last,
-  declares,
-  def_of,
-  defined,
-  defines,
-  empty_head,
-  listing_after,
-  next_opened,
-  opened,
-  opens,
-};
+ghost use Rattle.cb_scan.specs.steps.Heads.{add, called_after, calls_last, declares, def_of};
+ghost use Rattle.cb_scan.specs.steps.Heads.{defined, defines, empty_head, listing_after};
+ghost use Rattle.cb_scan.specs.steps.Heads.{next_opened, opened, opens};
 
 use crate::facts::{Def, Kind};
 use crate::lex::token::{Role, Token, WordKind};

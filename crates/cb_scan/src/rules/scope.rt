@@ -1,16 +1,7 @@
 //! The functions and macros around places.
 ghost use Rattle.std.specs.Prelude.{◌≡◌, IfOk};
-ghost use Rattle.cb_scan.specs.steps.Scopes.{
-  around,
-  first_around,
-  include_place,
-  include_with,
-  reached,
-  scoped,
-  token_place,
-  use_of,
-  Stays,
-};
+ghost use Rattle.cb_scan.specs.steps.Scopes.{around, first_around, include_place, include_with};
+ghost use Rattle.cb_scan.specs.steps.Scopes.{reached, scoped, token_place, use_of, Stays};
 
 use crate::facts::{Include, Use};
 use crate::lex::piece::Span;

@@ -4,24 +4,11 @@ ghost use Rattle.std.specs.Prelude.{◌≡◌, ◌+◌, ◌<◌, ◌≤◌, ◌^
 ghost use Rattle.std.specs.Option.{option_to_list};
 ghost use Rattle.cb_scan.specs.Definitions.{typedef_def};
 ghost use Rattle.cb_scan.specs.rules.Typedefs.{nesting_after};
-ghost use Rattle.cb_scan.specs.steps.Typedefs.{
-  after,
-  all_names,
-  begins,
-  declaration_start,
-  ended_name,
-  ends,
-  name_of,
-  nesting_of,
-  next_declaration,
-  next_pending,
-  parts_at,
-  pointer_after,
-  reach_after,
-  stays,
-  takes,
-  typedefs_out,
-};
+ghost use Rattle.cb_scan.specs.steps.Typedefs.{after, all_names, begins, declaration_start};
+ghost use Rattle.cb_scan.specs.steps.Typedefs.{ended_name, ends, name_of, nesting_of};
+ghost use Rattle.cb_scan.specs.steps.Typedefs.{next_declaration, next_pending, parts_at};
+ghost use Rattle.cb_scan.specs.steps.Typedefs.{pointer_after, reach_after, stays, takes};
+ghost use Rattle.cb_scan.specs.steps.Typedefs.{typedefs_out};
 
 use crate::facts::{Def, Kind};
 use crate::lex::token::{Role, Token};

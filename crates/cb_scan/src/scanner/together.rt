@@ -3,13 +3,8 @@
 ghost use Rattle.std.specs.Prelude.{◌≡◌, ◌++◌, IfOk};
 ghost use Rattle.cb_scan.specs.Order.{call_key, in_order};
 ghost use Rattle.cb_scan.specs.Profiles.{kept};
-ghost use Rattle.cb_scan.specs.steps.Scopes.{
-  include_place,
-  include_with,
-  scoped,
-  token_place,
-  use_of,
-};
+ghost use Rattle.cb_scan.specs.steps.Scopes.{include_place, include_with, scoped, token_place};
+ghost use Rattle.cb_scan.specs.steps.Scopes.{use_of};
 
 use crate::facts::{Call, Def, Facts, Include};
 use crate::gather::LineLists;

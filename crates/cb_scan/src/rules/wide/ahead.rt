@@ -1,12 +1,7 @@
 //! What follows the next token.
 ghost use Rattle.std.specs.Prelude.{◌≡◌};
-ghost use Rattle.cb_scan.specs.steps.wide.Ahead.{
-  encloses_name,
-  opens_twice,
-  rest_encloses_name,
-  second_is,
-  second_is_word,
-};
+ghost use Rattle.cb_scan.specs.steps.wide.Ahead.{encloses_name, opens_twice, rest_encloses_name};
+ghost use Rattle.cb_scan.specs.steps.wide.Ahead.{second_is, second_is_word};
 
 use crate::rules::wide::token::WideToken;
 

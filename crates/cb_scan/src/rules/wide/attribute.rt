@@ -1,16 +1,9 @@
 //! Attributes, which all other rules of the wide profile leave out.
 ghost use Rattle.std.specs.Prelude.{◌≡◌, ◌+◌, ◌<◌, ◌≤◌, ◌^◌};
-ghost use Rattle.cb_scan.specs.rules.wide.Attributes.{
-  begins_attribute,
-  begins_with_literal,
-  ends_attribute,
-};
-ghost use Rattle.cb_scan.specs.steps.wide.Attributes.{
-  inside_after,
-  leaves_out,
-  next_attribute,
-  open_count,
-};
+ghost use Rattle.cb_scan.specs.rules.wide.Attributes.{begins_attribute, begins_with_literal};
+ghost use Rattle.cb_scan.specs.rules.wide.Attributes.{ends_attribute};
+ghost use Rattle.cb_scan.specs.steps.wide.Attributes.{inside_after, leaves_out, next_attribute};
+ghost use Rattle.cb_scan.specs.steps.wide.Attributes.{open_count};
 
 use crate::rules::wide::role::WideRole;
 use crate::rules::wide::token::WideToken;

@@ -1,13 +1,7 @@
 //! Names that are called in parentheses, as in `(WINAPI *f)(`.
 ghost use Rattle.std.specs.Prelude.{◌≡◌, true};
-ghost use Rattle.cb_scan.specs.steps.wide.Called.{
-  amount_after,
-  call_of,
-  enclosed_start,
-  next_calls,
-  next_enclosed,
-  no_calls,
-};
+ghost use Rattle.cb_scan.specs.steps.wide.Called.{amount_after, call_of, enclosed_start};
+ghost use Rattle.cb_scan.specs.steps.wide.Called.{next_calls, next_enclosed, no_calls};
 
 use crate::rules::wide::ahead::second_is;
 use crate::rules::wide::token::WideToken;

@@ -1,20 +1,9 @@
 //! A declaration, a token at a time.
 ghost use Rattle.std.specs.Prelude.{◌≡◌, ◌+◌, ◌<◌, ◌≤◌, ◌^◌, true};
-ghost use Rattle.cb_scan.specs.steps.wide.Declarations.{
-  before_in_file,
-  closes,
-  declaration_start,
-  ends_part,
-  grown,
-  is_end,
-  is_linkage,
-  is_over,
-  may_name,
-  next_in_file,
-  next_member,
-  next_part_of,
-  noted,
-};
+ghost use Rattle.cb_scan.specs.steps.wide.Declarations.{before_in_file, closes, declaration_start};
+ghost use Rattle.cb_scan.specs.steps.wide.Declarations.{ends_part, grown, is_end, is_linkage};
+ghost use Rattle.cb_scan.specs.steps.wide.Declarations.{is_over, may_name, next_in_file};
+ghost use Rattle.cb_scan.specs.steps.wide.Declarations.{next_member, next_part_of, noted};
 
 use crate::rules::typedefs::nesting_after;
 use crate::rules::wide::part::Part;

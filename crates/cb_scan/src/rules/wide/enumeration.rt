@@ -1,10 +1,7 @@
 //! The body of an enumeration, a token at a time.
 ghost use Rattle.std.specs.Prelude.{◌≡◌, ◌+◌, ◌<◌, ◌≤◌, ◌^◌};
-ghost use Rattle.cb_scan.specs.steps.wide.Enumerators.{
-  enumeration_start,
-  is_enumerator,
-  next_enumeration,
-};
+ghost use Rattle.cb_scan.specs.steps.wide.Enumerators.{enumeration_start, is_enumerator};
+ghost use Rattle.cb_scan.specs.steps.wide.Enumerators.{next_enumeration};
 
 use crate::rules::typedefs::nesting_after;
 use crate::rules::wide::ahead::second_is;

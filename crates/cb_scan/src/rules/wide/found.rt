@@ -3,11 +3,7 @@ ghost use Rattle.std.specs.Prelude.{◌≡◌, ◌++◌, [], IfOk};
 ghost use Rattle.std.specs.List.{flat_map};
 ghost use Rattle.std.specs.Option.{option_to_list};
 ghost use Rattle.cb_scan.specs.steps.wide.Declarations.{given};
-ghost use Rattle.cb_scan.specs.steps.wide.Givens.{
-  object_given,
-  typedef_given,
-  variable_kind,
-};
+ghost use Rattle.cb_scan.specs.steps.wide.Givens.{object_given, typedef_given, variable_kind};
 ghost use Rattle.cb_scan.specs.steps.wide.Pass.{part_at};
 
 use crate::facts::{Def, Kind};

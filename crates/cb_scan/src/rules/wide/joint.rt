@@ -4,15 +4,8 @@ ghost use Rattle.std.specs.Prelude.{◌≡◌, ◌+◌, ◌<◌, ◌≤◌, ◌^
 ghost use Rattle.std.specs.Option.{option_map};
 ghost use Rattle.cb_scan.specs.steps.Functions.{range_to};
 ghost use Rattle.cb_scan.specs.steps.wide.Contents.{are_in_block};
-ghost use Rattle.cb_scan.specs.steps.wide.Pass.{
-  entered,
-  is_in_file,
-  left,
-  most_in,
-  next_lists,
-  next_pass,
-  pass_start,
-};
+ghost use Rattle.cb_scan.specs.steps.wide.Pass.{entered, is_in_file, left, most_in, next_lists};
+ghost use Rattle.cb_scan.specs.steps.wide.Pass.{next_pass, pass_start};
 
 use crate::lex::piece::Span;
 use crate::rules::scope::Range;

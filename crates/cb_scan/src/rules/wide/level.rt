@@ -1,13 +1,8 @@
 //! The levels that open braces make.
 ghost use Rattle.std.specs.Prelude.{◌≡◌, ◌+◌, ◌<◌, ◌≤◌, ◌^◌};
 ghost use Rattle.std.specs.Option.{option_to_list};
-ghost use Rattle.cb_scan.specs.steps.wide.Contents.{
-  count_of,
-  level_out,
-  member_here,
-  next_level,
-  next_of_members,
-};
+ghost use Rattle.cb_scan.specs.steps.wide.Contents.{count_of, level_out, member_here, next_level};
+ghost use Rattle.cb_scan.specs.steps.wide.Contents.{next_of_members};
 ghost use Rattle.cb_scan.specs.steps.wide.Levels.{member_tag, opened, opened_body};
 
 use crate::facts::{Def, Kind, Tag};

@@ -1,14 +1,8 @@
 //! The levels that are open, the innermost first.
 ghost use Rattle.std.specs.Prelude.{◌≡◌, ◌+◌, ◌<◌, ◌≤◌, ◌^◌, ◌∷◌, [], drop, true, IfOk};
 ghost use Rattle.std.specs.Option.{option_to_list};
-ghost use Rattle.cb_scan.specs.steps.wide.Contents.{
-  are_in_block,
-  closed_by,
-  defined_by,
-  first_goes_on,
-  most_open,
-  tag_inside,
-};
+ghost use Rattle.cb_scan.specs.steps.wide.Contents.{are_in_block, closed_by, defined_by};
+ghost use Rattle.cb_scan.specs.steps.wide.Contents.{first_goes_on, most_open, tag_inside};
 
 use crate::facts::{Def, Tag};
 use crate::rules::wide::level::Level;

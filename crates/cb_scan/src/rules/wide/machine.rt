@@ -1,20 +1,9 @@
 //! The functions of the wide profile, a token at a time. Attributes are left out.
 ghost use Rattle.std.specs.Prelude.{◌≡◌, ◌+◌, ◌<◌, ◌≤◌, ◌^◌};
 ghost use Rattle.cb_scan.specs.steps.Heads.{add};
-ghost use Rattle.cb_scan.specs.steps.wide.Functions.{
-  defined,
-  found,
-  function_here,
-  grown,
-  head_name,
-  next,
-  next_depth,
-  next_inside,
-  next_old,
-  start,
-  stopped,
-  stops,
-};
+ghost use Rattle.cb_scan.specs.steps.wide.Functions.{defined, found, function_here, grown};
+ghost use Rattle.cb_scan.specs.steps.wide.Functions.{head_name, next, next_depth, next_inside};
+ghost use Rattle.cb_scan.specs.steps.wide.Functions.{next_old, start, stopped, stops};
 ghost use Rattle.cb_scan.specs.steps.wide.Joint.{machine_beside};
 
 use crate::facts::Def;

@@ -1,14 +1,7 @@
 //! A part of a declaration, or of the head of a function, a token at a time.
 ghost use Rattle.std.specs.Prelude.{◌≡◌, true};
-ghost use Rattle.cb_scan.specs.steps.wide.Parts.{
-  begins_value,
-  function,
-  is_stray,
-  may_declare,
-  named,
-  next_part,
-  part_start,
-};
+ghost use Rattle.cb_scan.specs.steps.wide.Parts.{begins_value, function, is_stray, may_declare};
+ghost use Rattle.cb_scan.specs.steps.wide.Parts.{named, next_part, part_start};
 
 use crate::rules::wide::called::Calls;
 use crate::rules::wide::pointer::Pointer;

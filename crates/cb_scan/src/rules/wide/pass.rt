@@ -4,43 +4,19 @@ ghost use Rattle.std.specs.Prelude.{if◌then◌else◌};
 ghost use Rattle.std.specs.List.{flat_map};
 ghost use Rattle.std.specs.Option.{option_map};
 ghost use Rattle.cb_scan.specs.steps.Functions.{range_to};
-ghost use Rattle.cb_scan.specs.steps.wide.Contents.{
-  defined_by,
-  first_goes_on,
-  most_open,
-  next_levels,
-  tag_inside,
-};
+ghost use Rattle.cb_scan.specs.steps.wide.Contents.{defined_by, first_goes_on, most_open};
+ghost use Rattle.cb_scan.specs.steps.wide.Contents.{next_levels, tag_inside};
 ghost use Rattle.cb_scan.specs.steps.wide.Functions.{next_depth};
 ghost use Rattle.cb_scan.specs.steps.wide.Levels.{opened};
 ghost use Rattle.cb_scan.specs.steps.wide.Givens.{object_given, typedef_given};
-ghost use Rattle.cb_scan.specs.steps.wide.Joint.{
-  next_together,
-  pass_with,
-  stays_together,
-  together_on,
-};
+ghost use Rattle.cb_scan.specs.steps.wide.Joint.{next_together, pass_with, stays_together};
+ghost use Rattle.cb_scan.specs.steps.wide.Joint.{together_on};
 ghost use Rattle.cb_scan.specs.steps.wide.Openings.{next_opening};
-ghost use Rattle.cb_scan.specs.steps.wide.Pass.{
-  entered,
-  function_found,
-  is_block,
-  is_brace,
-  is_in_file,
-  left,
-  lists_inside,
-  most_in,
-  next_body,
-  next_file,
-  next_lists,
-  next_of_file,
-  next_pass,
-  part_at,
-  parts_here,
-  pass_inside,
-  pass_start,
-  range_closed,
-};
+ghost use Rattle.cb_scan.specs.steps.wide.Pass.{entered, function_found, is_block, is_brace};
+ghost use Rattle.cb_scan.specs.steps.wide.Pass.{is_in_file, left, lists_inside, most_in, next_body};
+ghost use Rattle.cb_scan.specs.steps.wide.Pass.{next_file, next_lists, next_of_file, next_pass};
+ghost use Rattle.cb_scan.specs.steps.wide.Pass.{part_at, parts_here, pass_inside, pass_start};
+ghost use Rattle.cb_scan.specs.steps.wide.Pass.{range_closed};
 
 use crate::facts::Def;
 use crate::lex::piece::Span;

@@ -1,34 +1,16 @@
 //! The pass of the wide profile over all tokens of the code. Tokens that may be of an attribute, or
 //! ahead of which more is to be seen, are held back.
-ghost use Rattle.std.specs.Prelude.{◌≡◌, ◌+◌, ◌<◌, ◌≤◌, ◌^◌, ◌++◌, ◌∷◌, [], drop, length, true, IfOk};
+ghost use Rattle.std.specs.Prelude.{◌≡◌, ◌+◌, ◌<◌, ◌≤◌, ◌^◌, ◌∷◌, [], drop, length, IfOk};
 ghost use Rattle.cb_scan.specs.rules.wide.Attributes.{ends_attribute};
-ghost use Rattle.cb_scan.specs.steps.wide.Attributes.{kept_from, open_count};
+ghost use Rattle.cb_scan.specs.steps.wide.Attributes.{open_count};
 ghost use Rattle.cb_scan.specs.steps.wide.Contents.{are_in_block};
 ghost use Rattle.cb_scan.specs.steps.wide.Pass.{most_in, take_all, take_first};
-ghost use Rattle.cb_scan.specs.steps.wide.Reading.{
-  all_taken,
-  closes_block,
-  emptied,
-  first_taken,
-  held,
-  held_len,
-  is_mark_of_blocks,
-  most_left_out,
-  opens_block,
-  read_next,
-  read_on,
-  reader_after,
-  reader_start,
-  released,
-  settled,
-  taken_after,
-  taken_at_end,
-  taken_if_full,
-  taken_next,
-  taken_on,
-  the_taken,
-  turned,
-};
+ghost use Rattle.cb_scan.specs.steps.wide.Reading.{all_taken, closes_block, emptied, first_taken};
+ghost use Rattle.cb_scan.specs.steps.wide.Reading.{held, held_len, is_mark_of_blocks};
+ghost use Rattle.cb_scan.specs.steps.wide.Reading.{most_left_out, opens_block, read_next, read_on};
+ghost use Rattle.cb_scan.specs.steps.wide.Reading.{reader_after, reader_start, released, settled};
+ghost use Rattle.cb_scan.specs.steps.wide.Reading.{taken_after, taken_at_end, taken_if_full};
+ghost use Rattle.cb_scan.specs.steps.wide.Reading.{taken_next, taken_on, the_taken, turned};
 ghost use Rattle.cb_scan.specs.steps.wide.Tokens.{token_after};
 
 use crate::lex::token::{Role, Token};

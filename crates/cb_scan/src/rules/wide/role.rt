@@ -1,27 +1,12 @@
 //! What a token is for the rules of the wide profile.
 ghost use Rattle.std.specs.Prelude.{◌≡◌, ◌≤◌, length};
 ghost use Rattle.cb_scan.specs.declared.lex.token.Role.TheVariants.{Other};
-ghost use Rattle.cb_scan.specs.rules.wide.Words.{
-  attribute_words,
-  is_among,
-  is_attribute_word,
-  is_keyword,
-  is_literal,
-  is_sign,
-  is_specifier,
-  is_statement_word,
-  is_text,
-  is_underscored,
-  is_wide_name,
-  is_wide_word,
-  name_role,
-  reserved_role,
-  role_from,
-  specifier_words,
-  statement_words,
-  wide_role,
-  word_role,
-};
+ghost use Rattle.cb_scan.specs.rules.wide.Words.{attribute_words, is_among, is_attribute_word};
+ghost use Rattle.cb_scan.specs.rules.wide.Words.{is_keyword, is_literal, is_sign, is_specifier};
+ghost use Rattle.cb_scan.specs.rules.wide.Words.{is_statement_word, is_text, is_underscored};
+ghost use Rattle.cb_scan.specs.rules.wide.Words.{is_wide_name, is_wide_word, name_role};
+ghost use Rattle.cb_scan.specs.rules.wide.Words.{reserved_role, role_from, specifier_words};
+ghost use Rattle.cb_scan.specs.rules.wide.Words.{statement_words, wide_role, word_role};
 
 use crate::lex::name::is_among;
 use crate::lex::token::{Role, Token, WordKind};

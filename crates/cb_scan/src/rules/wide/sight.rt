@@ -3,20 +3,10 @@
 ghost use Rattle.std.specs.Prelude.{◌≡◌, ◌+◌, ◌<◌, ◌≤◌, ◌^◌, length};
 ghost use Rattle.cb_scan.specs.lex.Tokens.{bytes_of};
 ghost use Rattle.cb_scan.specs.steps.wide.Tokens.{token_after};
-ghost use Rattle.cb_scan.specs.steps.wide.Sights.{
-  is_idle,
-  look,
-  look_inside,
-  open_in_phase,
-  phase_after,
-  phase_past,
-  phase_past_other,
-  phase_past_paren,
-  phase_past_word,
-  seen_after,
-  sight_opening,
-  sight_start,
-};
+ghost use Rattle.cb_scan.specs.steps.wide.Sights.{is_idle, look, look_inside, open_in_phase};
+ghost use Rattle.cb_scan.specs.steps.wide.Sights.{phase_after, phase_past, phase_past_other};
+ghost use Rattle.cb_scan.specs.steps.wide.Sights.{phase_past_paren, phase_past_word, seen_after};
+ghost use Rattle.cb_scan.specs.steps.wide.Sights.{sight_opening, sight_start};
 
 use crate::lex::token::{Role, Token, WordKind};
 use crate::rules::functions::Before;

@@ -1,18 +1,8 @@
 //! The names of a part after its last brace and the last `*` outside parentheses and brackets.
 ghost use Rattle.std.specs.Prelude.{◌≡◌, true};
-ghost use Rattle.cb_scan.specs.steps.wide.Tails.{
-  declared_by,
-  follows_type,
-  is_barred,
-  is_called,
-  is_candidate,
-  is_end,
-  next_tail,
-  outer_tail,
-  prototype_at,
-  tail_start,
-  trails,
-};
+ghost use Rattle.cb_scan.specs.steps.wide.Tails.{declared_by, follows_type, is_barred, is_called};
+ghost use Rattle.cb_scan.specs.steps.wide.Tails.{is_candidate, is_end, next_tail, outer_tail};
+ghost use Rattle.cb_scan.specs.steps.wide.Tails.{prototype_at, tail_start, trails};
 
 use crate::rules::wide::ahead::{encloses_name, opens_twice, rest_encloses_name, second_is};
 use crate::rules::wide::token::WideToken;
