@@ -71,6 +71,12 @@ LINES = {
         b"f%s(){%s}" % (b"x" * 240_000, b"a;" * 120_000) for _ in range(2)
     )
     + b"\n",
+    "three, whose middles differ": b"".join(
+        b"%s%s%s(){%s}" % (b"x" * 100_000, middle, b"x" * 100_000, b"a;" * 60_000)
+        for middle in (b"c", b"b", b"a")
+    )
+    + b"\n",
+    "many names, the middles differ": b"f(){" + numbered(b"aaaaaaaa#bbbbbbbb;", 990_000) + b"}\n",
     "calls in calls": b"f(){" + b"a(" * 490_000 + b"\n",
     "many names of a typedef": b"typedef " + b"a," * 490_000 + b"a;\n",
 }

@@ -11,7 +11,7 @@ mod bounds;
 mod change;
 mod rows;
 
-// The desk, the files that it begins with, and its past and future.
+// The desk, and its past and future.
 mod history;
 mod state;
 

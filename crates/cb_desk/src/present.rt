@@ -1,5 +1,5 @@
-//! The present world in memory, in the numbers of an archive, and what is read of it. No reader
-//! takes memory.
+//! The present world in the numbers of an archive: turned by a record, given room, and read. No
+//! reader takes memory.
 ghost use Rattle.std.specs.Prelude.{◌≡◌, ◌≤◌, ◌+◌, ◌^◌, ◌++◌, [], MatchOption, OnOk, length, map};
 ghost use Rattle.std.specs.Prelude.{take};
 ghost use Rattle.std.specs.List.Sorted.{IsStrictlyIncreasing};

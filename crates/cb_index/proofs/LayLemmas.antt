@@ -43,7 +43,7 @@ use Rattle.cb_index.specs.steps.Laying.{starts, with_each}
 use Rattle.cb_index.proofs.FirstLemmas.{at_number}
 use Rattle.cb_index.proofs.InOrderLemmas.{filter_kept, map_in_order, same_order}
 use Rattle.cb_index.proofs.ItemLines.{fact_line}
-use Rattle.cb_index.specs.steps.Repeating.{function_span}
+use Rattle.cb_index.specs.steps.FunctionSpans.{function_span}
 use Rattle.cb_index.proofs.RepeatLemmas.{and_false, both, one_function}
 
 -- ---- lists
@@ -192,7 +192,7 @@ module _ (p : ℕ → Bool) (n end : ℕ) (ys : List ℕ) where
             behind = rest.behind;
           }
 
--- ---- items of one key stand together
+-- ---- truth values and orderings
 then_first : (o p : Ordering) → not (is_gt (ordering_then o p)) ≡ true → not (is_gt o) ≡ true
 then_first Less p is = refl
 then_first Equal p is = refl
@@ -853,6 +853,26 @@ one_span_cmp sort text m n is =
     ∙ ap
     (ordering_then (nat_cmp (hash (column_of sort text m)) (hash (column_of sort text n))))
     (column_cmp sort text m n)
+
+-- keys that stand at one place are one key
+pub one_place_cmp : (by : Likeness) (sort : FactKind) (text : Scanned) (m n : Mention)
+    → m.span ≡ n.span
+    → slice_cmp nat_cmp (key_rest by sort text m) (key_rest by sort text n)
+    ≡ slice_cmp nat_cmp (bytes_rank by sort text m) (bytes_rank by sort text n)
+one_place_cmp by sort text m n is =
+    let keys : slice_cmp nat_cmp (cut text.bytes m.span) (cut text.bytes n.span) ≡ Equal =
+    subst (λ s. slice_cmp nat_cmp (cut text.bytes m.span) (cut text.bytes s) ≡ Equal) is
+    (tied_itself nat_list_cmp_total (cut text.bytes m.span)) in
+    sym (λ i. ordering_then (keys i)
+    (slice_cmp nat_cmp (key_rest by sort text m) (key_rest by sort text n)))
+    ∙ sym (ended (cut text.bytes m.span) (cut text.bytes n.span) (key_rest by sort text m)
+    (key_rest by sort text n))
+
+pub one_place_key : (text : Scanned) (m n : Mention) → m.span ≡ n.span
+    → true ≡ bytes_eq (cut text.bytes m.span) (cut text.bytes n.span)
+one_place_key text m n is =
+    sym ((bytes_eq-Decides (cut text.bytes m.span) (cut text.bytes n.span)).1
+    (ap (cut text.bytes) is))
 
 pub bytes_cmp : (by : Likeness) (sort : FactKind) (text : Scanned) (m n : Mention)
     → ordering_then (slice_cmp nat_cmp (cut text.bytes m.span) (cut text.bytes n.span))

@@ -17,7 +17,7 @@ use Rattle.cb_index.specs.Repeats.{any_below, have_one_row}
 use Rattle.cb_index.specs.declared.entry.FactKind.{FactKind}
 use Rattle.cb_index.specs.declared.entry.FactKind.TheVariants.{Uses, Callees, Callers}
 use Rattle.cb_index.specs.steps.Found.{fact_at, fact_of_call, fact_of_use}
-use Rattle.cb_index.specs.steps.Repeating.{function_span, scope_of}
+use Rattle.cb_index.specs.steps.FunctionSpans.{function_span, scope_of}
 
 pub both : (a b : Bool) → (a && b) ≡ true → (a ≡ true) × (b ≡ true)
 both true true is = (refl, refl)

@@ -4,13 +4,13 @@ pub mod Compact
 pub mod Counting
 pub mod DefSearch
 pub mod Found
+pub mod FunctionSpans
 pub mod Given
 pub mod Includes
 pub mod Laying
 pub mod Left
 pub mod Moves
 pub mod Quick
-pub mod Repeating
 pub mod RowsLeft
 pub mod Runs
 pub mod Searched

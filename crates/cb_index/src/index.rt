@@ -1,5 +1,5 @@
-//! The five indexes: of each the entries in the order of its kind, and the new versions, which are
-//! put off until they are asked.
+//! The five indexes: of each the entries in the order of its kind, and the versions that are pending
+//! until a question comes.
 ghost use Rattle.std.specs.Prelude.{◌≡◌, ◌≤◌, ◌+◌, ◌*◌, ◌++◌, ◌∷◌, [], List, OnOk, Some, false};
 ghost use Rattle.std.specs.Prelude.{filter, length, not, true, vec_capacity};
 ghost use Rattle.std.specs.List.{AllByRecursion};

@@ -5,6 +5,7 @@ ghost use Rattle.std.specs.Cmp.Lexicographic.{slice_cmp};
 ghost use Rattle.std.specs.List.{AllByRecursion};
 ghost use Rattle.std.specs.List.Sorted.{IsPermutation};
 ghost use Rattle.std.specs.Ordering.{nat_cmp};
+ghost use Rattle.std.specs.Str.{bytes_eq};
 ghost use Rattle.cb_scan.specs.Order.{in_order};
 ghost use Rattle.cb_index.specs.Bytes.{cut};
 ghost use Rattle.cb_index.specs.Items.{item_count};
@@ -104,9 +105,9 @@ impl Links {
 
 // ---- laying them
 
-/// What items have in common that are linked.
+/// What items have in common that stand side by side.
 #[derive(Clone, Copy)]
-pub(crate) enum Likeness {
+enum Likeness {
     /// One key.
     Key,
     /// One key and one row.
@@ -245,6 +246,21 @@ fn key_of(text: &ScannedSource, mention: Mention) -> &[u8]
     cut(text.source().bytes(), mention.span)
 }
 
+/// Whether the keys of two mentions stand at one place of the text.
+fn have_one_place(a: Mention, b: Mention) -> bool
+    ensures { result ≡ true → a.span ≡ b.span }
+{
+    a.span.start == b.span.start && a.span.end == b.span.end
+}
+
+/// Whether two mentions have one key. Its bytes are looked at only where it stands at two places: a
+/// key may be long, and around many calls.
+fn have_one_key(text: &ScannedSource, a: Mention, b: Mention) -> bool
+    ensures { result ≡ bytes_eq (cut text.now.bytes a.span) (cut text.now.bytes b.span) }
+{
+    have_one_place(a, b) || key_of(text, a) == key_of(text, b)
+}
+
 /// The order of two mentions with one hash.
 fn compare_keys(
     by: Likeness,
@@ -256,6 +272,9 @@ fn compare_keys(
     ensures { result
         ≡ slice_cmp nat_cmp (bytes_rank by sort text.now a) (bytes_rank by sort text.now b) }
 {
+    if have_one_place(a, b) {
+        return compare_rest(by, sort, text, a, b);
+    }
     match key_of(text, a).cmp(key_of(text, b)) {
         Ordering::Less => Ordering::Less,
         Ordering::Greater => Ordering::Greater,
@@ -307,7 +326,7 @@ fn have_one_rest(by: Likeness, sort: FactKind, text: &ScannedSource, a: Mention,
 fn are_alike(by: Likeness, sort: FactKind, text: &ScannedSource, a: Mention, b: Mention) -> bool
     ensures { result ≡ are_alike by sort text.now a b }
 {
-    (a.hash == b.hash && key_of(text, a) == key_of(text, b)) && have_one_rest(by, sort, text, a, b)
+    (a.hash == b.hash && have_one_key(text, a, b)) && have_one_rest(by, sort, text, a, b)
 }
 
 /// The mention that follows another, if they are alike.
@@ -418,12 +437,7 @@ fn fill(links: &mut Vec<Link>, count: usize)
 
 /// Lays the links of all items of a text, with a list as scratch; none where one of the lists has
 /// too little room. It takes no memory.
-pub(crate) fn lay(
-    sort: FactKind,
-    text: &ScannedSource,
-    scratch: &mut Vec<Mention>,
-    links: &mut Vec<Link>,
-)
+fn lay(sort: FactKind, text: &ScannedSource, scratch: &mut Vec<Mention>, links: &mut Vec<Link>)
     ensures { (links.new.items ≡ []) ⊎ (links.new.items ≡ links_of sort text.now) }
 {
     links.truncate(0);

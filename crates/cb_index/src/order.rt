@@ -1,5 +1,5 @@
-//! By the kind of an index: the keys and the entries of a version, how two entries compare, and
-//! bounds among them. Entries compare by prefix, key, file name and then by their own numbers. Key
+//! The keys and the entries of a version, how two entries compare, and bounds among them, each by
+//! the kind of an index. Entries compare by prefix, key, file name and then by their own numbers. Key
 //! and name are looked up in the archive; so what is pushed there changes nothing of the order of
 //! entries that are held. Of one key in one file the numbers go by place.
 ghost use Rattle.std.specs.Prelude.{◌≡◌, ◌<◌, ◌≤◌, ◌+◌, ◌^◌, ◌++◌, [], ℕ, IfSome, List, length};

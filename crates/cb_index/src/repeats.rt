@@ -1,4 +1,4 @@
-//! Items whose row is that of an earlier item.
+//! Items whose row is that of an earlier item, and the name in the function column.
 ghost use Rattle.std.specs.Prelude.{◌≡◌, ◌∷◌, [], true, MatchOption};
 ghost use Rattle.std.specs.Str.{bytes_eq};
 ghost use Rattle.cb_index.specs.Counts.{function_of};
@@ -6,7 +6,7 @@ ghost use Rattle.cb_index.specs.Repeats.{have_one_row, is_repeat};
 ghost use Rattle.cb_index.specs.steps.Found.{fact_at};
 ghost use Rattle.cb_index.specs.steps.Given.{given_left};
 ghost use Rattle.cb_index.specs.steps.Left.{fact_of_spot};
-ghost use Rattle.cb_index.specs.steps.Repeating.{function_span};
+ghost use Rattle.cb_index.specs.steps.FunctionSpans.{function_span};
 
 use crate::archive::{ScannedSource, Version, bytes_at};
 use crate::entry::FactKind;
@@ -71,7 +71,7 @@ pub(crate) fn function_in(sort: FactKind, text: &ScannedSource, item: u32) -> &[
 }
 
 /// Whether two items have one key, and equal rows under it.
-pub(crate) fn have_one_row(sort: FactKind, text: &ScannedSource, a: u32, b: u32) -> bool
+fn have_one_row(sort: FactKind, text: &ScannedSource, a: u32, b: u32) -> bool
     ensures { result ≡ have_one_row sort text.now a b }
 {
     let one = fact_in(sort, b"", text, a);

@@ -65,7 +65,7 @@ pub struct Shelf {
     totals: Totals,
     room: Room,
     turns: u64,
-    /// Scratch, in which the links of a version are laid.
+    /// Scratch: the items of a version, which are sorted to lay its links.
     mentions: Vec<Mention>,
 }
 

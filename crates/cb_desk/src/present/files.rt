@@ -1,4 +1,4 @@
-//! Plans that change the files, and the places of a file that gets another name, in numbers.
+//! Plans that change the files. A file that gets another name takes its places along, in numbers.
 ghost use Rattle.std.specs.Prelude.{◌≡◌, ◌∷◌, [], IfOk, false, map};
 ghost use Rattle.std.specs.Cmp.Lexicographic.{slice_cmp};
 ghost use Rattle.std.specs.Ordering.{nat_cmp};

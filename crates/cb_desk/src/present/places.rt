@@ -1,5 +1,5 @@
-//! Plans that leave the files as they are: those of marks, of frames and of the wanted text. Marks
-//! are in the numbers of an archive.
+//! Plans that leave the files as they are: those of marks, of frames and of the wanted text, in the
+//! numbers of an archive.
 ghost use Rattle.std.specs.Prelude.{◌≡◌, ◌≢◌, ◌<◌, ◌≤◌, ◌++◌, [], ⊤, IfOk, MatchOption};
 ghost use Rattle.std.specs.Prelude.{MatchResult, Some, length, map, not, slice_get};
 ghost use Rattle.std.specs.Cmp.Lexicographic.{slice_cmp};

@@ -3,7 +3,7 @@ use Rattle.std.specs.Cmp.Lexicographic.{slice_cmp}
 use Rattle.std.specs.Ordering.{nat_cmp, ordering_then}
 use Rattle.cb_scan.specs.TextFacts.{TextFacts}
 use Rattle.cb_index.specs.steps.Laying.{column_rest, hash}
-use Rattle.cb_index.specs.steps.Repeating.{function_span}
+use Rattle.cb_index.specs.steps.FunctionSpans.{function_span}
 use Rattle.cb_index.proofs.LayLemmas.{one_span_cmp}
 use Rattle.cb_index.proofs.links.compare_functions.Goals as goal
 

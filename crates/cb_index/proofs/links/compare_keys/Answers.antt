@@ -2,8 +2,14 @@ use Rattle.std.proofs.Common.{◌∙◌, sym}
 use Rattle.std.specs.Cmp.Lexicographic.{slice_cmp}
 use Rattle.std.specs.Ordering.{nat_cmp, ordering_then}
 use Rattle.cb_index.specs.steps.Laying.{key_rest}
-use Rattle.cb_index.proofs.LayLemmas.{bytes_cmp}
+use Rattle.cb_index.proofs.LayLemmas.{bytes_cmp, one_place_cmp}
 use Rattle.cb_index.proofs.links.compare_keys.Goals as goal
+
+pub returns-then-have_one_place : goal.returns-then-have_one_place
+returns-then-have_one_place c =
+    c.compare_rest.ensures
+    ∙ one_place_cmp c.args.by c.args.sort c.args.text.now c.args.a c.args.b
+    (c.have_one_place.ensures c.if-have_one_place.true)
 
 pub returns-in-Less : goal.returns-in-Less
 returns-in-Less c =
@@ -34,5 +40,5 @@ returns-in-Equal c =
     let text = c.args.text.now in
     (λ i. ordering_then ((sym c.in-Equal.is ∙ c.cmp.ensures
     ∙ (λ j. slice_cmp nat_cmp (c.key_of.ensures j) (c.key_of-2.ensures j))) i)
-    (c.compare_rest.ensures i))
+    (c.compare_rest-in-Equal.ensures i))
     ∙ bytes_cmp c.args.by c.args.sort text a b

@@ -1,6 +1,6 @@
 use Rattle.std.proofs.Common.{◌≡◌, ◌∙◌, sym, ap}
 use Rattle.cb_scan.specs.TextFacts.{TextFacts}
-use Rattle.cb_index.specs.steps.Repeating.{function_span}
+use Rattle.cb_index.specs.steps.FunctionSpans.{function_span}
 use Rattle.cb_index.proofs.RepeatLemmas.{one_function}
 use Rattle.cb_index.proofs.repeats.have_one_function.Goals as goal
 

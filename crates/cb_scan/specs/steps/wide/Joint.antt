@@ -43,6 +43,7 @@ machine_beside d m x =
     if is_sign semicolon x.role then stopped m x
     else record m { head = add m.head x.token; parts = head_beside d m.parts x }
 
+-- after a token that the head and the declaration of the file take together: these two
 abbrev pub together_on : Pass → List WideToken → WideToken → Pass
 together_on p xs x = record p {
   machine = machine_beside p.file p.machine x;

@@ -1,6 +1,7 @@
 -- The pass of the wide profile over all tokens of the code: those that may be of an attribute, or
 -- ahead of which more is to be seen, are held back.
-use Rattle.std.specs.Prelude.{ℕ, ◌+◌, Bool, ◌&&◌, ◌||◌, not, ◌==◌, List, [], ◌∷◌, ◌++◌, drop, take, length, max, Option}
+use Rattle.std.specs.Prelude.{ℕ, ◌+◌, Bool, ◌&&◌, ◌||◌, not, ◌==◌, List, [], ◌∷◌, ◌++◌, drop}
+use Rattle.std.specs.Prelude.{take, length, max, Option}
 use Rattle.std.specs.Prelude.{if◌then◌else◌}
 use Rattle.std.specs.Option.{is_none}
 use Rattle.cb_scan.specs.declared.lex.token.Role.{Role}

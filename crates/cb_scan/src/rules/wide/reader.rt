@@ -294,7 +294,7 @@ impl Reader {
     }
 
     /// A token of a text, by what is directly before it, as the pass reads it. It stands apart for
-    /// the reason that [`Sight::glance`] has.
+    /// the reason that `Sight::look_after` has.
     fn read_after(
         &mut self,
         pass: &mut Joint,

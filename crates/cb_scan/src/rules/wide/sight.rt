@@ -199,7 +199,7 @@ impl Sight {
         self.opening.is_none() && self.before.is_none() && !matches!(self.phase, Phase::Inside(_))
     }
 
-    /// The same. Most tokens say nothing.
+    /// After a token of a text, by what is directly before it. Most tokens say nothing.
     #[inline(always)]
     pub(crate) fn glance(&mut self, text: &[u8], before: Before, token: &Token)
         requires order { token.now.span.start ≤ token.now.span.end }
