@@ -16,7 +16,7 @@ ghost use Rattle.cb_index.specs.steps.Laying.{have_one_rest, item_or_none, key_e
 ghost use Rattle.cb_index.specs.steps.Laying.{link_by, mention_of, mentions_of, next_mention};
 ghost use Rattle.cb_index.specs.steps.Laying.{numbers, rank, row_rest, span_or_none, with_each};
 
-use crate::archive::{OutOfMemory, ScannedSource, cut};
+use crate::archive::{OutOfMemory, ScannedSource, compare_by_words, cut};
 use crate::entry::FactKind;
 use crate::items::{count_in, item_line, item_span};
 use crate::repeats::{function_in, have_one_function, have_one_span};
@@ -275,7 +275,7 @@ fn compare_keys(
     if have_one_place(a, b) {
         return compare_rest(by, sort, text, a, b);
     }
-    match key_of(text, a).cmp(key_of(text, b)) {
+    match compare_by_words(key_of(text, a), key_of(text, b)) {
         Ordering::Less => Ordering::Less,
         Ordering::Greater => Ordering::Greater,
         Ordering::Equal => compare_rest(by, sort, text, a, b),

@@ -16,7 +16,7 @@ returns-in-Less c =
     let a = c.args.a in
     let b = c.args.b in
     let text = c.args.text.now in
-    (λ i. ordering_then ((sym c.in-Less.is ∙ c.cmp.ensures
+    (λ i. ordering_then ((sym c.in-Less.is ∙ c.compare_by_words.ensures
     ∙ (λ j. slice_cmp nat_cmp (c.key_of.ensures j) (c.key_of-2.ensures j))) i)
     (slice_cmp nat_cmp (key_rest c.args.by c.args.sort text a)
     (key_rest c.args.by c.args.sort text b)))
@@ -27,7 +27,7 @@ returns-in-Greater c =
     let a = c.args.a in
     let b = c.args.b in
     let text = c.args.text.now in
-    (λ i. ordering_then ((sym c.in-Greater.is ∙ c.cmp.ensures
+    (λ i. ordering_then ((sym c.in-Greater.is ∙ c.compare_by_words.ensures
     ∙ (λ j. slice_cmp nat_cmp (c.key_of.ensures j) (c.key_of-2.ensures j))) i)
     (slice_cmp nat_cmp (key_rest c.args.by c.args.sort text a)
     (key_rest c.args.by c.args.sort text b)))
@@ -38,7 +38,7 @@ returns-in-Equal c =
     let a = c.args.a in
     let b = c.args.b in
     let text = c.args.text.now in
-    (λ i. ordering_then ((sym c.in-Equal.is ∙ c.cmp.ensures
+    (λ i. ordering_then ((sym c.in-Equal.is ∙ c.compare_by_words.ensures
     ∙ (λ j. slice_cmp nat_cmp (c.key_of.ensures j) (c.key_of-2.ensures j))) i)
     (c.compare_rest-in-Equal.ensures i))
     ∙ bytes_cmp c.args.by c.args.sort text a b
