@@ -4,7 +4,7 @@ use Rattle.cb_session.specs.declared.input.Fault.{Fault}
 use Rattle.cb_session.specs.declared.input.Fault.TheVariants.{Read, Write, Memory, LongLine}
 use Rattle.cb_session.specs.declared.input.Fault.TheVariants.{ManyLines}
 use Rattle.cb_session.specs.declared.input.Input.{Input}
-use Rattle.cb_session.specs.declared.intake.LineRead.TheVariants.{End, Line, Long}
+use Rattle.cb_session.specs.declared.input.LineRead.TheVariants.{End, Line, Long}
 use Rattle.cb_desk.specs.declared.change.Refusal.TheVariants.{LineTooLong}
 use Rattle.cb_session.specs.Commands.{short_line}
 use Rattle.cb_tags.specs.Readers.{Reader, WhateverFollows, leaving}

@@ -14,9 +14,9 @@ use Rattle.cb_tags.specs.declared.feed.ReadFault.{ReadFault}
 use Rattle.cb_tags.specs.declared.feed.Stage.TheVariants.{Failed}
 use Rattle.cb_session.specs.declared.input.Fault.{Fault}
 use Rattle.cb_session.specs.declared.input.Fault.TheVariants.{LongLine, Read}
-use Rattle.cb_session.specs.declared.intake.LineRead.{LineRead}
-use Rattle.cb_session.specs.declared.intake.LineRead.TheVariants.{End, Line, Long}
-use Rattle.cb_session.specs.declared.limits.TheConstants.{MOST_LINE}
+use Rattle.cb_session.specs.declared.input.LineRead.{LineRead}
+use Rattle.cb_session.specs.declared.input.LineRead.TheVariants.{End, Line, Long}
+use Rattle.cb_session.specs.declared.input.TheConstants.{MOST_LINE}
 use Rattle.cb_tags.specs.Readers.{Reader, GivesByte, HasRead, WhateverFollows, leaving}
 use Rattle.cb_session.specs.Commands.{short_line}
 use Rattle.cb_session.specs.Inputs.{is_line_feed, first, with_block, line_asks}

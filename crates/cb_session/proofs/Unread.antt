@@ -11,8 +11,8 @@ use Rattle.cb_tags.specs.declared.feed.Stage.TheVariants.{Ended, Failed}
 use Rattle.cb_session.specs.declared.input.Fault.{Fault}
 use Rattle.cb_session.specs.declared.input.Fault.TheVariants.{Read}
 use Rattle.cb_session.specs.declared.input.Input.{Input}
-use Rattle.cb_session.specs.declared.intake.LineRead.{LineRead}
-use Rattle.cb_session.specs.declared.intake.LineRead.TheVariants.{Line}
+use Rattle.cb_session.specs.declared.input.LineRead.{LineRead}
+use Rattle.cb_session.specs.declared.input.LineRead.TheVariants.{Line}
 use Rattle.cb_session.specs.declared.line.Purpose.{Purpose}
 use Rattle.cb_session.specs.Commands.{short_line}
 use Rattle.cb_tags.specs.Readers.{Reader, GivesByte, WhateverFollows}

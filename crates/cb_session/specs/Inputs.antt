@@ -10,7 +10,7 @@ use Rattle.cb_desk.specs.Step.{Step, load, reload}
 use Rattle.cb_session.specs.declared.input.Ended.{Ended}
 use Rattle.cb_session.specs.declared.input.Ended.TheVariants.{Done, Cut, Fault}
 use Rattle.cb_session.specs.declared.input.Fault.TheVariants.{LongLine, ManyLines}
-use Rattle.cb_session.specs.declared.limits.TheConstants.{MOST_LINE}
+use Rattle.cb_session.specs.declared.input.TheConstants.{MOST_LINE}
 use Rattle.cb_session.specs.declared.line.Purpose.{Purpose}
 use Rattle.cb_session.specs.declared.line.Purpose.TheVariants.{Load, Reload}
 use Rattle.cb_session.specs.Commands.{short_line}

@@ -4,7 +4,7 @@ use Rattle.cb_desk.specs.declared.change.Refusal.{Refusal}
 use Rattle.cb_desk.specs.declared.change.Refusal.TheVariants.{OutOfMemory}
 use Rattle.cb_session.specs.declared.input.Ended.{Ended}
 use Rattle.cb_session.specs.declared.input.Ended.TheVariants.{Operand as StoppedAt}
-use Rattle.cb_session.specs.declared.operands.Operand.{Operand}
+use Rattle.cb_session.specs.declared.state.Operand.{Operand}
 use Rattle.cb_desk.specs.Desk.{bytes_in, counted}
 use Rattle.cb_desk.specs.World.{File, WorldBounds}
 use Rattle.cb_desk.specs.Step.{load}

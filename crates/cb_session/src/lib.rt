@@ -7,23 +7,17 @@
 //! bytes of the input.
 #![tactic(auto)]
 
-mod block;
+// What is read: inputs, what a line asks for, and how a run ends.
 mod input;
-mod intake;
-pub mod laws;
-mod limits;
 mod line;
-mod operands;
-mod places;
-mod queries;
+
+// What is done with it, and what is written.
+pub mod laws;
 mod reply;
 mod state;
 mod tags;
 
-pub use input::{Command, Ended, Fault, Going, Input};
-pub use intake::{Intake, OutOfMemory};
-pub use limits::Limits;
-pub use operands::{Operand, Operands, prepare, run};
+pub use input::{Command, Ended, Fault, Going, Input, Intake, Limits, OutOfMemory};
 pub use reply::{put_answer, put_row};
-pub use state::Session;
+pub use state::{Operand, Operands, Session, prepare, run};
 pub use tags::{put_listing_file, put_tags_file};

@@ -3,7 +3,7 @@ ghost use Rattle.std.specs.Prelude.{◌≡◌, ◌≤◌, true, length};
 ghost use Rattle.std.specs.List.{list_all, slice_split, position};
 ghost use Rattle.std.specs.Str.Parse.{digits_value};
 ghost use Rattle.cb_desk.specs.Answer.{field_of_digit};
-ghost use Rattle.cb_session.specs.declared.limits.TheConstants.{MOST_DIGITS};
+ghost use Rattle.cb_session.specs.declared.input.TheConstants.{MOST_DIGITS};
 ghost use Rattle.cb_session.specs.Commands.{cut_at, is_digit, is_space, is_number, number_in};
 ghost use Rattle.cb_session.specs.Commands.{load_sized, load_words, tags_numbered, tags_words};
 ghost use Rattle.cb_session.specs.Commands.{drop_words, rename_words, mark_numbered, mark_words};
@@ -13,7 +13,7 @@ ghost use Rattle.cb_session.specs.Commands.{short_line};
 ghost use Rattle.cb_session.specs.Models.{request_of, command_of, line_request_of};
 ghost use Rattle.cb_session.specs.steps.Words.{rest_of, words_after, parts_of};
 
-use crate::limits::MOST_DIGITS;
+use crate::input::MOST_DIGITS;
 use crate::{Command, Input};
 use cb_desk::{Change, Field, Format, Refusal};
 

@@ -1,17 +1,24 @@
-//! The replies, and the texts that they are made of.
-ghost use Rattle.std.specs.Prelude.{◌≡◌, IfOk, false};
+//! The replies: the texts that they are made of, answers to questions, the marks and the tag stack.
 ghost use Rattle.std.specs.List.{flat_map};
-ghost use Rattle.cb_session.specs.Writing.{Puts};
+ghost use Rattle.std.specs.Prelude.{◌≡◌, IfOk, false, ◌≢◌, []};
+ghost use Rattle.cb_desk.specs.Answer.{answer};
+ghost use Rattle.cb_desk.specs.Models.{row_of, place_at};
+ghost use Rattle.cb_desk.specs.Tags.{tags};
+ghost use Rattle.cb_desk.specs.declared.rows.Format.TheVariants.{Extended};
 ghost use Rattle.cb_session.specs.Output.{row_line, answer_lines, count_line, done_line};
-ghost use Rattle.cb_session.specs.Output.{refused_line, prompt};
-ghost use Rattle.cb_desk.specs.Models.{row_of};
+ghost use Rattle.cb_session.specs.Output.{refused_line, prompt, listing_reply, tags_reply};
+ghost use Rattle.cb_session.specs.Places.{place_row, mark_rows, stack_rows};
+ghost use Rattle.cb_session.specs.Writing.{Puts};
 ghost use Rattle.cb_session.specs.steps.Rounds.{move_line};
 
 use crate::Fault;
-use cb_desk::{RefRow, Refusal, Rows};
+use crate::tags::{put_listing_reply, put_tags_reply};
+use cb_desk::{Desk, Field, Format, RefRow, Refusal, Rows, line_row};
 use cb_tags::{Sink, put_text, put_texts};
 use itoa::Buffer;
 use std::io::Write;
+
+// ---- texts and rows
 
 /// Writes a whole text.
 fn put<W: Write>(out: &mut Sink<W>, text: &[u8]) -> Result<(), Fault>
@@ -121,4 +128,101 @@ pub fn put_answer<W: Write>(out: &mut Sink<W>, rows: Rows<'_, '_>) -> Result<(),
         put_row(out, &row)?;
     }
     Ok(())
+}
+
+// ---- answers: what a question reads is put in order first, where it has many rows
+
+/// Writes the rows that answer a question. It takes no memory.
+pub(crate) fn put_query<W: Write>(
+    out: &mut Sink<W>,
+    desk: &mut Desk,
+    field: Field,
+    pattern: &[u8],
+) -> Result<(), Fault>
+    requires { pattern.now ≢ [] }
+    ensures timeline { desk.new.timeline ≡ desk.old.timeline }
+    ensures meter { desk.new.meter ≡ desk.old.meter }
+    ensures turns { desk.new.turns ≡ desk.old.turns }
+    ensures written { Puts out.old out.new result
+        (answer_lines (answer desk.old.timeline.present field pattern.now)) }
+{
+    desk.settle_for(field, pattern);
+    put_rows(out, desk.rows(field, pattern))
+}
+
+/// Writes the tags of a format. It takes no memory.
+pub(crate) fn put_tags<W: Write>(
+    out: &mut Sink<W>,
+    desk: &mut Desk,
+    format: Format,
+) -> Result<(), Fault>
+    ensures timeline { desk.new.timeline ≡ desk.old.timeline }
+    ensures meter { desk.new.meter ≡ desk.old.meter }
+    ensures turns { desk.new.turns ≡ desk.old.turns }
+    ensures written { Puts out.old out.new result
+        (tags_reply format (tags format desk.old.timeline.present)) }
+{
+    desk.settle_tags(format);
+    put_tags_reply(out, format, desk.tag_rows(format))
+}
+
+/// Writes the listing. It takes no memory.
+pub(crate) fn put_listing<W: Write>(out: &mut Sink<W>, desk: &mut Desk) -> Result<(), Fault>
+    ensures timeline { desk.new.timeline ≡ desk.old.timeline }
+    ensures meter { desk.new.meter ≡ desk.old.meter }
+    ensures turns { desk.new.turns ≡ desk.old.turns }
+    ensures written { Puts out.old out.new result
+        (listing_reply (tags Extended desk.old.timeline.present)) }
+{
+    desk.settle_tags(Format::Extended);
+    put_listing_reply(out, desk.tag_rows(Format::Extended))
+}
+
+// ---- the marks and the tag stack
+
+/// The row of a place.
+fn place_row<'a>(desk: &'a Desk, file: &'a [u8], line: u32) -> RefRow<'a>
+    ensures { row_of result
+        ≡ place_row desk.now.timeline.present.files (place_at (file.entry, line)) }
+{
+    match desk.source(file) {
+        Some(source) => line_row(file, source, line),
+        None => RefRow {
+            file,
+            function: b"<unknown>",
+            line,
+            text: b"",
+        },
+    }
+}
+
+/// Writes the reply that shows the marks. It takes no memory.
+pub fn put_marks<W: Write>(out: &mut Sink<W>, desk: &Desk) -> Result<(), Fault>
+    ensures { Puts out.old out.new result (answer_lines (mark_rows desk.now.timeline.present)) }
+{
+    put_count(out, desk.marks().len() as u128)?;
+    for (file, line) in desk.marks() {
+        put_row(out, &place_row(desk, file, line))?;
+    }
+    Ok(())
+}
+
+/// Writes the rows of the frames, from the top of the stack down.
+fn put_frames<W: Write>(out: &mut Sink<W>, desk: &Desk) -> Result<(), Fault>
+    ensures { Puts out.old out.new result
+        (flat_map row_line (stack_rows desk.now.timeline.present)) }
+{
+    let mut frames = desk.frames();
+    while let Some((file, line)) = frames.next_back() {
+        put_row(out, &place_row(desk, file, line))?;
+    }
+    Ok(())
+}
+
+/// Writes the reply that shows the tag stack. It takes no memory.
+pub fn put_stack<W: Write>(out: &mut Sink<W>, desk: &Desk) -> Result<(), Fault>
+    ensures { Puts out.old out.new result (answer_lines (stack_rows desk.now.timeline.present)) }
+{
+    put_count(out, desk.frames().len() as u128)?;
+    put_frames(out, desk)
 }

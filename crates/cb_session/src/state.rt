@@ -1,27 +1,32 @@
-//! A session, and its runs.
+//! A session, its runs, and the files that are loaded before one.
 ghost use Rattle.std.specs.Prelude.{◌≡◌, Bool, List, ℕ, Some, false, IfOk, IfSome, MatchResult};
-ghost use Rattle.cb_session.specs.Output.{prompt};
+ghost use Rattle.std.specs.Prelude.{map};
 ghost use Rattle.cb_desk.specs.Models.{step_of};
 ghost use Rattle.cb_desk.specs.Step.{want};
 ghost use Rattle.cb_tags.specs.Readers.{WhateverFollows};
 ghost use Rattle.cb_session.specs.Inputs.{first, ending_of};
 ghost use Rattle.cb_session.specs.Models.{request_of, going_of, HasPattern};
-ghost use Rattle.cb_session.specs.Serving.{Does, HasFailed, IfFault, Serves, ServesInputs, Tells};
-ghost use Rattle.cb_session.specs.States.{new_state, state_of};
-ghost use Rattle.cb_session.specs.steps.Rounds.{LeavesRound, ReadsRound, fault_in};
+ghost use Rattle.cb_session.specs.Operands.{file_of_operand, Prepares, Runs};
+ghost use Rattle.cb_session.specs.Output.{prompt};
 ghost use Rattle.cb_session.specs.Requests.{change as change_asked};
+ghost use Rattle.cb_session.specs.Serving.{Does, HasFailed, IfFault, Serves, ServesInputs, Tells};
+ghost use Rattle.cb_session.specs.Serving.{HandsOn, fault_of};
+ghost use Rattle.cb_session.specs.States.{new_state, state_of};
 ghost use Rattle.cb_session.specs.Writing.{Puts};
+ghost use Rattle.cb_session.specs.steps.Rounds.{LeavesRound, ReadsRound, fault_in};
 
-use crate::places::{put_marks, put_stack};
-use crate::queries::{put_listing, put_query, put_tags};
-use crate::reply::{put_move, put_prompt, put_refusal};
-use crate::{Command, Ended, Fault, Going, Input, Intake, Limits};
+use crate::input::{Command, Ended, Fault, Going, Input, Intake, Limits};
+use crate::reply::{
+    put_listing, put_marks, put_move, put_prompt, put_query, put_refusal, put_stack, put_tags,
+};
 use cb_desk::{Bounds, Change, Desk, Field};
 use cb_scan::Profile;
 use cb_tags::{Feed, Sink};
 use std::alloc::Global;
 use std::io::{BufRead, Write};
 use std::marker::Model;
+
+// ---- a session
 
 /// A desk, and the commands on it.
 #[derive(Drop)]
@@ -243,5 +248,66 @@ impl Session {
         let ending = input.ending();
         self.answer(alloc, input, out)?;
         Ok(ending)
+    }
+}
+
+// ---- what is loaded before a run
+
+/// A file that is to be loaded: its name and its bytes.
+#[derive(Debug, Drop)]
+pub struct Operand {
+    pub name: Vec<u8>,
+    pub bytes: Vec<u8>,
+}
+
+/// Files that are to be loaded, in order.
+pub type Operands = Vec<Operand>;
+
+/// A session within these bounds, and by a profile, in which the operands are loaded, each as a
+/// change that can be taken back. The first refusal ends it.
+pub fn prepare(
+    alloc: Global,
+    bounds: Bounds,
+    profile: Profile,
+    operands: Operands,
+) -> Result<Session, Ended>
+    ensures { Prepares profile bounds (map file_of_operand operands.items) result }
+{
+    let mut desk = Desk::new(alloc, bounds, profile);
+    let mut place = 0u32;
+    for operand in operands {
+        let Operand { name, bytes } = operand;
+        match desk.change(alloc, Change::Load(name.as_slice(), bytes)) {
+            Ok(()) => {}
+            Err(refusal) => return Err(Ended::Operand(place, refusal)),
+        }
+        place += 1;
+    }
+    Ok(Session::over(desk))
+}
+
+/// Loads the operands, and then prompts, reads and replies until the run ends.
+pub fn run<R: BufRead, W: Write>(
+    alloc: Global,
+    bounds: Bounds,
+    profile: Profile,
+    limits: &Limits,
+    feed: &mut Feed<R>,
+    out: &mut Sink<W>,
+    operands: Operands,
+) -> Ended
+    ensures output { (bytes : List ℕ) → feed.old.bytes ≡ Some bytes
+        → Runs profile bounds (map file_of_operand operands.items) limits.now.lines
+        limits.now.line bytes feed.new out.old out.new result }
+    ensures every_input { WhateverFollows feed.old feed.new (λ bytes left.
+        Runs profile bounds (map file_of_operand operands.items) limits.now.lines
+        limits.now.line bytes left out.old out.new result) }
+    ensures failed { IfFault result (HasFailed feed.new out.new) }
+    ensures told { Tells feed.old feed.new out.old out.new (fault_of result) }
+    ensures handed_on { HandsOn out.new result }
+{
+    match prepare(alloc, bounds, profile, operands) {
+        Ok(mut session) => session.serve(alloc, limits, feed, out),
+        Err(ended) => ended,
     }
 }

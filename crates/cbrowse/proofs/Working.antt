@@ -11,7 +11,7 @@ use Rattle.cb_lsp.specs.Documents.{Looked}
 use Rattle.cb_session.specs.declared.input.Ended.{Ended}
 use Rattle.cb_session.specs.declared.input.Ended.TheVariants.{Done, Cut, Fault}
 use Rattle.cb_session.specs.declared.input.Ended.TheVariants.{Operand as StoppedAt}
-use Rattle.cb_session.specs.declared.operands.Operand.{Operand}
+use Rattle.cb_session.specs.declared.state.Operand.{Operand}
 use Rattle.cb_tags.specs.Readers.{Reader}
 use Rattle.cb_session.specs.Operands.{LoadsAll, Prepares, RefusedOperand, file_of_operand}
 use Rattle.cb_session.specs.States.{State}

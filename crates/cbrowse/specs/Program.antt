@@ -22,7 +22,7 @@ use Rattle.cb_lsp.specs.Runs.{LeavesRun}
 use Rattle.cb_session.specs.declared.input.Ended.{Ended}
 use Rattle.cb_session.specs.declared.input.Ended.TheVariants.{Done, Fault, Operand as StoppedAt}
 use Rattle.cb_session.specs.declared.input.Fault.TheVariants.{Write, Memory}
-use Rattle.cb_session.specs.declared.operands.Operand.{Operand}
+use Rattle.cb_session.specs.declared.state.Operand.{Operand}
 use Rattle.cb_tags.specs.Readers.{Reader, WhateverFollows}
 use Rattle.cb_session.specs.Output.{row_line}
 use Rattle.cb_session.specs.Operands.{LoadsAll, RefusedOperand}

@@ -5,9 +5,9 @@ use Rattle.cb_desk.specs.declared.change.Refusal.TheVariants.{LineTooLong}
 use Rattle.cb_tags.specs.declared.feed.Stage.TheVariants.{Failed}
 use Rattle.cb_session.specs.declared.input.Fault.{Fault}
 use Rattle.cb_session.specs.declared.input.Fault.TheVariants.{Read, Memory, LongLine}
-use Rattle.cb_session.specs.declared.intake.LineRead.{LineRead}
-use Rattle.cb_session.specs.declared.intake.LineRead.TheVariants.{End, Line, Long}
-use Rattle.cb_session.specs.declared.limits.TheConstants.{MOST_LINE}
+use Rattle.cb_session.specs.declared.input.LineRead.{LineRead}
+use Rattle.cb_session.specs.declared.input.LineRead.TheVariants.{End, Line, Long}
+use Rattle.cb_session.specs.declared.input.TheConstants.{MOST_LINE}
 use Rattle.cb_session.specs.Commands.{short_line}
 use Rattle.cb_session.specs.Inputs.{first, with_block}
 use Rattle.cb_session.specs.Requests.{refused, quit, overlong}

@@ -3,7 +3,7 @@ use Rattle.cb_desk.specs.World.{Place}
 use Rattle.cb_session.specs.Output.{count_line, row_line}
 use Rattle.cb_session.specs.Places.{place_row}
 use Rattle.cb_session.proofs.Puts.{WrittenAfter}
-use Rattle.cb_session.proofs.places.put_marks.Given as goal
+use Rattle.cb_session.proofs.reply.put_marks.Given as goal
 
 abbrev pub invariant-loop-file : goal.invariant-loop-file
 invariant-loop-file g l =

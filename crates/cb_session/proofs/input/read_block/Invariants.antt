@@ -1,6 +1,6 @@
 use Rattle.std.proofs.Common.{◌≤◌, ◌-◌, length, vec_capacity}
 use Rattle.cb_tags.specs.Readers.{HasRead, HoldsOut}
-use Rattle.cb_session.proofs.block.read_block.Given as goal
+use Rattle.cb_session.proofs.input.read_block.Given as goal
 
 abbrev pub invariant-pieces : goal.invariant-pieces
 invariant-pieces g l = record {

@@ -2,7 +2,7 @@ use Rattle.std.proofs.Common.{Ok}
 use Rattle.cb_session.specs.Inputs.{inputs}
 use Rattle.cb_session.proofs.Rounds.{session_run}
 use Rattle.cb_session.proofs.Running.{Follows-loaded, Follows-refused, Runs-refused}
-use Rattle.cb_session.proofs.operands.run.Goals as goal
+use Rattle.cb_session.proofs.state.run.Goals as goal
 
 -- what is left beside the session
 pub returns-in-Ok-clause-output : goal.returns-in-Ok-clause-output

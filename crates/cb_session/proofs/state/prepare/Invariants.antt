@@ -3,7 +3,7 @@ use Rattle.std.specs.Vec.Iter.{into_iter_items, into_iter_len}
 use Rattle.cb_session.specs.Operands.{RefusedOperand, Loads, file_of_operand}
 use Rattle.cb_desk.specs.Desk.{bytes_in, counted}
 use Rattle.cb_desk.specs.Timeline.{Timeline, new_timeline}
-use Rattle.cb_session.proofs.operands.prepare.Given as goal
+use Rattle.cb_session.proofs.state.prepare.Given as goal
 
 abbrev pub invariant-loop-operand : goal.invariant-loop-operand
 invariant-loop-operand l = record {

@@ -6,7 +6,7 @@ use Rattle.cb_session.proofs.Streams.{ReadsLine-none, first_overlong, Follows-li
 use Rattle.cb_session.proofs.Streams.{Follows-line_end, Follows-line_failed, Follows-no_line}
 use Rattle.cb_session.proofs.Streams.{Follows-overlong}
 use Rattle.cb_session.proofs.Unread.{Unread-line}
-use Rattle.cb_session.proofs.intake.Intake.read_line.Goals as goal
+use Rattle.cb_session.proofs.input.Intake.read_line.Goals as goal
 
 pub returns-in-None-clause-line : goal.returns-in-None-clause-line
 returns-in-None-clause-line g c = λ bytes e. let k = rw c.in-None.is at c.in_ok-byte.ensures in

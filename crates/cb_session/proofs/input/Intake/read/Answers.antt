@@ -5,7 +5,7 @@ use Rattle.cb_session.proofs.FirstInputs.{Follows-with_block}
 use Rattle.cb_tags.proofs.Follows.{Follows-so}
 use Rattle.cb_session.proofs.Patterns.{HasPattern-whole}
 use Rattle.cb_session.proofs.Unread.{Unread-change}
-use Rattle.cb_session.proofs.intake.Intake.read.Goals as goal
+use Rattle.cb_session.proofs.input.Intake.read.Goals as goal
 
 pub returns-in-Whole-clause-pattern : goal.returns-in-Whole-clause-pattern
 returns-in-Whole-clause-pattern g c =

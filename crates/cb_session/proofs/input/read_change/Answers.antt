@@ -2,7 +2,7 @@ use Rattle.std.proofs.Common.{rules, ◌≡◌, Err, ap}
 use Rattle.cb_session.specs.Requests.{change}
 use Rattle.cb_session.proofs.Blocks.{Reads-block, Reads-cut, Reads-no_block}
 use Rattle.cb_tags.proofs.Follows.{Follows-so}
-use Rattle.cb_session.proofs.block.read_change.Goals as goal
+use Rattle.cb_session.proofs.input.read_change.Goals as goal
 
 pub returns-in_err-bytes-clause-first : goal.returns-in_err-bytes-clause-first
 returns-in_err-bytes-clause-first g c = λ bytes e.

@@ -1,7 +1,7 @@
 use Rattle.std.proofs.Common.{◌∙◌, sym, ap}
 use Rattle.cb_desk.specs.Answer.{line_row}
 use Rattle.cb_session.proofs.Shown.{line_row-empty, no-text-found, text-found}
-use Rattle.cb_session.proofs.places.place_row.Goals as goal
+use Rattle.cb_session.proofs.reply.place_row.Goals as goal
 
 pub returns-in-None : goal.returns-in-None
 returns-in-None c =

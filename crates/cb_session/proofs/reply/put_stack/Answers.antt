@@ -1,7 +1,7 @@
 use Rattle.std.proofs.Common.{◌∙◌, sym, ap, length}
 use Rattle.cb_session.proofs.Shown.{stack_rows-length}
 use Rattle.cb_session.proofs.Puts.{Puts-unfinished, Puts-after}
-use Rattle.cb_session.proofs.places.put_stack.Goals as goal
+use Rattle.cb_session.proofs.reply.put_stack.Goals as goal
 
 pub returns-in_err-put_count : goal.returns-in_err-put_count
 returns-in_err-put_count g c =

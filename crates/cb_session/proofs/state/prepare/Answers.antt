@@ -5,7 +5,7 @@ use Rattle.cb_desk.specs.Desk.{DeskState}
 use Rattle.cb_session.specs.Operands.{file_of_operand}
 use Rattle.cb_session.proofs.Loading.{all_loaded_start, goes_on, past_grows, scans_bound}
 use Rattle.cb_session.proofs.Loading.{scans_next, shows_next, stops}
-use Rattle.cb_session.proofs.operands.prepare.Goals as goal
+use Rattle.cb_session.proofs.state.prepare.Goals as goal
 
 pub overflow_add-place : goal.overflow_add-place
 overflow_add-place c =

@@ -3,7 +3,7 @@ use Rattle.cb_desk.specs.Models.{place_at}
 use Rattle.cb_tags.specs.Writing.{PutsAll, PutsPrefix}
 use Rattle.cb_session.specs.Output.{row_line}
 use Rattle.cb_session.proofs.Shown.{Shown-more, Shown-fault}
-use Rattle.cb_session.proofs.places.put_frames.Goals as goal
+use Rattle.cb_session.proofs.reply.put_frames.Goals as goal
 
 pub loop-file-preserved : goal.loop-file-preserved
 loop-file-preserved g c =

@@ -2,7 +2,7 @@ use Rattle.std.proofs.Common.{length, ap, arith}
 use Rattle.cb_tags.proofs.Follows.{Follows-nothing}
 use Rattle.cb_session.proofs.Streams.{ReadsBlock-whole, ReadsBlock-cut, Follows-block}
 use Rattle.cb_session.proofs.Streams.{Follows-block_end}
-use Rattle.cb_session.proofs.block.read_block.Goals as goal
+use Rattle.cb_session.proofs.input.read_block.Goals as goal
 
 pub returns-then-not-branch-clause-block : goal.returns-then-not-branch-clause-block
 returns-then-not-branch-clause-block g c = λ bytes e.

@@ -9,7 +9,7 @@ use Rattle.cb_session.specs.Writing.{Puts}
 use Rattle.cb_session.proofs.Puts.{Puts-unfinished, WrittenAfter-all, WrittenAfter-fault}
 use Rattle.cb_session.proofs.Puts.{WrittenAfter-more}
 use Rattle.cb_session.proofs.Shown.{marks-shown}
-use Rattle.cb_session.proofs.places.put_marks.Goals as goal
+use Rattle.cb_session.proofs.reply.put_marks.Goals as goal
 
 pub returns-in_err-put_count : goal.returns-in_err-put_count
 returns-in_err-put_count g c =
