@@ -84,8 +84,8 @@ impl Reader {
         ensures more { length self.new.bare ≤ length self.old.bare + 1 }
     {
         let ahead = self.raw.ahead();
-        let attribute = self.attribute.next(ahead);
-        if !self.attribute.leaves_out(ahead) {
+        let (attribute, is_left_out) = self.attribute.step(ahead);
+        if !is_left_out {
             if let [first, ..] = ahead {
                 self.bare.push(*first);
             }
