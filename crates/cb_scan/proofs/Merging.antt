@@ -6,7 +6,6 @@ use Rattle.std.proofs.Math.ListN.{drop_of_length-le}
 use Rattle.std.proofs.lemmas.List.{take-append-drop}
 use Rattle.std.proofs.lemmas.List.Sorted.{IsPermutation-append_comm, IsPermutation-append_left}
 use Rattle.std.proofs.lemmas.List.Sorted.{IsPermutation-append_right, IsPermutation-trans}
-use Rattle.std.proofs.lemmas.List.Sorted.{sum_by-IsPermutation}
 use Rattle.std.specs.Prelude.{◌&&◌, nat_le, not}
 use Rattle.std.specs.Cmp.{nat_cmp_is}
 use Rattle.std.specs.List.Sorted.{IsPermutation}
@@ -14,9 +13,10 @@ use Rattle.std.specs.Cmp.Lexicographic.{slice_cmp}
 use Rattle.std.specs.Ordering.{nat_cmp, is_gt, ordering_then}
 use Rattle.std.specs.declared.cmp.Ordering.TheVariants.{Less}
 use Rattle.cb_scan.specs.declared.facts.Call.{Call}
-use Rattle.cb_scan.specs.Order.{call_key, goes_first, in_order}
+use Rattle.cb_scan.specs.declared.facts.Def.{Def}
+use Rattle.cb_scan.specs.Order.{call_key, def_key, goes_first}
 use Rattle.cb_scan.specs.steps.Ascending.{ascend_from}
-use Rattle.cb_scan.proofs.OrderLemmas.{Sorted, all_first, call_exact, in_order_sorted, in_order_sum, unique}
+use Rattle.cb_scan.proofs.OrderLemmas.{Sorted, all_first}
 
 -- what is made, some more, one element, and what is left of both lists
 pub one_taken : {X : Type 0} → (made some rest : List X) (x : X) (xs : List X)
@@ -50,37 +50,53 @@ pub at_end : {X : Type 0} → (given made first rest items : List X) (i : ℕ)
 at_end given made first rest items i moved past is =
     subst (IsPermutation given) (ap (λ l. made ++ (l ++ rest)) (drop_of_length-le first past) ∙ sym is) moved
 
--- a call that begins before another goes first
-earlier_first : (c d : Call) → c.callee.start < d.callee.start → goes_first call_key c d ≡ true
-earlier_first c d lt =
-    let less : Less ≡ nat_cmp c.callee.start d.callee.start = nat_cmp_is c.callee.start d.callee.start Less lt in
-    λ i. not (is_gt (ordering_then (sym less i)
-    (slice_cmp nat_cmp (c.callee.end ∷ c.line ∷ c.caller.start ∷ c.caller.end ∷ [])
-    (d.callee.end ∷ d.line ∷ d.caller.start ∷ d.caller.end ∷ []))))
+-- an element whose key begins with a lower number goes first
+pub lower_first : {X : Type 0} → (key : X → List ℕ) (x y : X) (a b : ℕ) (us vs : List ℕ)
+    → key x ≡ a ∷ us → key y ≡ b ∷ vs → a < b → goes_first key x y ≡ true
+lower_first key x y a b us vs first second lt =
+    let less : Less ≡ nat_cmp a b = nat_cmp_is a b Less lt in
+    (λ i. not (is_gt (slice_cmp nat_cmp (first i) (second i))))
+    ∙ (λ i. not (is_gt (ordering_then (sym less i) (slice_cmp nat_cmp us vs))))
 
--- calls whose places ascend are sorted
-pub sorted_from_ascending : (place : ℕ) (cs : List Call) → ascend_from place cs ≡ true → Sorted call_key cs
-sorted_from_ascending place [] is = tt
-sorted_from_ascending place (c ∷ []) is = (tt, tt)
-sorted_from_ascending place (c ∷ d ∷ cs) is =
-    let rest : ascend_from (suc c.callee.start) (d ∷ cs) ≡ true = right (nat_le place c.callee.start) _ is in
-    let before : c.callee.start < d.callee.start =
-    leb-true (suc c.callee.start) d.callee.start (left _ _ rest) in
-    let later : Sorted call_key (d ∷ cs) = sorted_from_ascending (suc c.callee.start) (d ∷ cs) rest in
-    let first : goes_first call_key c d ≡ true = earlier_first c d before in
-    ((first, all_first call_key c d cs first later.0), later)
-  where
-    left : (a b : Bool) → (a && b) ≡ true → a ≡ true
-    left true b is = refl
-    left false b is = is
+-- a definition that begins before another goes first
+pub def_earlier : (d e : Def) → d.name.start < e.name.start → goes_first def_key d e ≡ true
+def_earlier d e = lower_first def_key d e d.name.start e.name.start _ _ refl refl
 
-    right : (a b : Bool) → (a && b) ≡ true → b ≡ true
-    right true b is = is
-    right false b is = absurd (false≢true is)
+-- and so does a call
+pub call_earlier : (c d : Call) → c.callee.start < d.callee.start → goes_first call_key c d ≡ true
+call_earlier c d = lower_first call_key c d c.callee.start d.callee.start _ _ refl refl
 
--- the same elements in order are the same list
-pub in_order_same : (xs ys : List Call) → IsPermutation xs ys → in_order call_key ys ≡ in_order call_key xs
-in_order_same xs ys moved =
-    unique call_key call_exact (in_order call_key ys) (in_order call_key xs)
-    (in_order_sorted call_key ys) (in_order_sorted call_key xs)
-    (λ f. in_order_sum call_key f ys ∙ sum_by-IsPermutation f xs ys moved ∙ sym (in_order_sum call_key f xs))
+module _ {X : Type 0} (key : X → List ℕ) (place_of : X → ℕ)
+    (earlier : (x y : X) → place_of x < place_of y → goes_first key x y ≡ true) where
+  -- elements whose places ascend are sorted
+  pub sorted_from_ascending : (place : ℕ) (xs : List X) → ascend_from place_of place xs ≡ true → Sorted key xs
+  sorted_from_ascending place [] is = tt
+  sorted_from_ascending place (x ∷ []) is = (tt, tt)
+  sorted_from_ascending place (x ∷ y ∷ ys) is =
+      let rest : ascend_from place_of (suc (place_of x)) (y ∷ ys) ≡ true =
+      right (nat_le place (place_of x)) _ is in
+      let before : place_of x < place_of y = leb-true (suc (place_of x)) (place_of y) (left _ _ rest) in
+      let later : Sorted key (y ∷ ys) = sorted_from_ascending (suc (place_of x)) (y ∷ ys) rest in
+      let first : goes_first key x y ≡ true = earlier x y before in
+      ((first, all_first key x y ys first later.0), later)
+    where
+      left : (a b : Bool) → (a && b) ≡ true → a ≡ true
+      left true b is = refl
+      left false b is = is
+
+      right : (a b : Bool) → (a && b) ≡ true → b ≡ true
+      right true b is = is
+      right false b is = absurd (false≢true is)
+
+-- four lists as one, two by two
+pub all_four : {X : Type 0} → (first second third fourth front back all : List X)
+    → IsPermutation (first ++ second) front → IsPermutation (fourth ++ third) back
+    → IsPermutation (front ++ back) all → IsPermutation (first ++ second ++ third ++ fourth) all
+all_four first second third fourth front back all in_front in_back moved =
+    subst (λ l. IsPermutation l all) (sym (append_assoc (first ++ second) third fourth))
+    (IsPermutation-trans ((first ++ second) ++ (third ++ fourth)) (front ++ (third ++ fourth)) all
+    (IsPermutation-append_left (third ++ fourth) _ _ in_front)
+    (IsPermutation-trans (front ++ (third ++ fourth)) (front ++ back) all
+    (IsPermutation-append_right front _ _
+    (IsPermutation-trans (third ++ fourth) (fourth ++ third) back (IsPermutation-append_comm third fourth) in_back))
+    moved))

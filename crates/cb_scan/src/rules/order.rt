@@ -1,7 +1,6 @@
 //! Facts in the order of their places.
-ghost use Rattle.std.specs.Prelude.{◌≡◌, ◌+◌, ◌++◌, ◌<◌, ◌≤◌, ◌^◌, length, nat_lt, IfOk};
-ghost use Rattle.std.specs.List.{prefix_len};
-ghost use Rattle.cb_scan.specs.declared.facts.Call.{Call};
+ghost use Rattle.std.specs.Prelude.{◌≡◌, ◌+◌, ◌++◌, ◌<◌, ◌≤◌, ◌^◌, length, IfOk};
+ghost use Rattle.std.specs.List.Sorted.{IsPermutation};
 ghost use Rattle.cb_scan.specs.Order.{call_key, def_key, in_order, kind_rank, tag_key};
 ghost use Rattle.cb_scan.specs.steps.Ascending.{ascend_from};
 
@@ -68,30 +67,65 @@ fn call_key(call: &Call) -> [u32; 5]
     ]
 }
 
-/// Puts definitions in the order of their places, and at one place in that of their kinds.
-fn order_defs(defs: &mut [Def])
-    ensures { defs.new ≡ in_order def_key defs.old }
-{
-    defs.sort_unstable_by_key(
-        |def: &Def| -> [u32; 9]
-            ensures { result ≡ def_key def.now }
-        { def_key(def) },
-    );
+/// What has a place in a text.
+trait Placed: Copy {
+    ghost use Rattle.std.specs.Prelude.{ℕ};
+
+    ghost place_of: { Self → ℕ };
+
+    /// Where it begins.
+    fn place(&self) -> u32
+        ensures { result ≡ place_of self.now };
 }
 
-/// Whether the places of calls ascend.
-fn ascend(calls: &[Call]) -> bool
-    ensures { result ≡ ascend_from 0 calls.now }
+impl Placed for Def {
+    ghost use Rattle.cb_scan.specs.declared.facts.Def.{Def};
+
+    ghost place_of = { λ (d : Def). d.name.start };
+
+    fn place(&self) -> u32 {
+        self.name.start
+    }
+}
+
+impl Placed for Call {
+    ghost use Rattle.cb_scan.specs.declared.facts.Call.{Call};
+
+    ghost place_of = { λ (c : Call). c.callee.start };
+
+    fn place(&self) -> u32 {
+        self.callee.start
+    }
+}
+
+/// Whether places ascend.
+fn ascend<T: Placed>(items: &[T]) -> bool
+    ensures { result ≡ ascend_from T.place_of 0 items.now }
 {
     let mut place: u64 = 0;
-    for call in calls {
-        let start = u64::from(call.callee.start);
+    for item in items {
+        let start = u64::from(item.place());
         if start < place {
             return false;
         }
         place = start + 1;
     }
     true
+}
+
+/// Puts definitions in the order of their places, and at one place in that of their kinds. Those
+/// that are in order are left as they are.
+fn order_defs(defs: &mut [Def])
+    ensures { defs.new ≡ in_order def_key defs.old }
+{
+    if ascend(defs) {
+        return;
+    }
+    defs.sort_unstable_by_key(
+        |def: &Def| -> [u32; 9]
+            ensures { result ≡ def_key def.now }
+        { def_key(def) },
+    );
 }
 
 /// Puts calls in the order of their places. Those that are in order are left as they are.
@@ -108,55 +142,59 @@ fn order_calls(calls: &mut [Call])
     );
 }
 
-/// Four lists, one after the other, at their exact size.
-fn joined<T: Copy>(
-    alloc: Global,
-    first: &[T],
-    second: &[T],
-    third: &[T],
-    fourth: &[T],
-) -> Result<Vec<T>, AllocError>
-    requires { length first.now + length second.now + length third.now + length fourth.now
-        < 2 ^ 64 }
-    ensures { IfOk result (λ all. all.items ≡ first.now ++ second.now ++ third.now ++ fourth.now) }
+/// How many elements come first that begin before a place.
+fn count_before<T: Placed>(items: &[T], place: u32) -> usize
+    ensures { result ≤ length items.now }
 {
-    let count = first.len() + second.len() + third.len() + fourth.len();
-    let mut all = Vec::with_capacity(alloc, count)?;
-    all.extend_from_slice(first)?;
-    all.extend_from_slice(second)?;
-    all.extend_from_slice(third)?;
-    all.extend_from_slice(fourth)?;
-    Ok(all)
+    for (i, item) in items.iter().enumerate() {
+        if item.place() >= place {
+            return i;
+        }
+    }
+    items.len()
 }
 
-/// How many calls come first that begin before a place.
-fn count_before(calls: &[Call], place: u32) -> usize
-    ensures value { result ≡ prefix_len (λ (c : Call). nat_lt c.callee.start place) calls.now }
-    ensures within { result ≤ length calls.now }
-{
-    calls
-        .iter()
-        .take_while(|call| call.callee.start < place)
-        .count()
-}
-
-/// Two lists as one: before each call of the first go those of the second that begin before it.
-/// Each list is in order, and so is the one list.
-fn merged(alloc: Global, first: &[Call], second: &[Call]) -> Result<Vec<Call>, AllocError>
+/// Two lists as one, at its exact size: before each element of the first go those of the second
+/// that begin before it. Where each list is in order, so is the one list.
+fn merged<T: Placed>(alloc: Global, first: &[T], second: &[T]) -> Result<Vec<T>, AllocError>
     requires { length first.now + length second.now < 2 ^ 64 }
-    ensures { IfOk result
-        (λ all. in_order call_key all.items ≡ in_order call_key (first.now ++ second.now)) }
+    ensures { IfOk result (λ all. IsPermutation (first.now ++ second.now) all.items) }
 {
     let mut all = Vec::with_capacity(alloc, first.len() + second.len())?;
     let mut rest = second;
-    for call in first {
-        let before = count_before(rest, call.callee.start);
+    for item in first {
+        let before = count_before(rest, item.place());
         all.extend_from_slice(&rest[..before])?;
-        all.push(*call)?;
+        all.push(*item)?;
         rest = &rest[before..];
     }
     all.extend_from_slice(rest)?;
     Ok(all)
+}
+
+/// All definitions. Where each list is in order, so are they.
+fn all_defs(
+    alloc: Global,
+    functions: &[Def],
+    macros: &[Def],
+    typedefs: &[Def],
+    structures: &[Def],
+) -> Result<Vec<Def>, AllocError>
+    ensures { IfOk result (λ all. in_order def_key all.items
+        ≡ in_order def_key (functions.now ++ macros.now ++ typedefs.now ++ structures.now)) }
+{
+    let named = merged(alloc, functions, macros)?;
+    let declared = merged(alloc, structures, typedefs)?;
+    merged(alloc, named.as_slice(), declared.as_slice())
+}
+
+/// All calls. Where each list is in order, so are they.
+fn all_calls(alloc: Global, functions: &[Call], macros: &[Call]) -> Result<Vec<Call>, AllocError>
+    requires { length functions.now + length macros.now < 2 ^ 64 }
+    ensures { IfOk result
+        (λ all. in_order call_key all.items ≡ in_order call_key (functions.now ++ macros.now)) }
+{
+    merged(alloc, functions, macros)
 }
 
 /// Functions, macros, typedefs and structures in the order of their places, and at one place in
@@ -171,7 +209,7 @@ pub(crate) fn ordered_defs(
     ensures { IfOk result (λ defs. defs.items
         ≡ in_order def_key (functions.now ++ macros.now ++ typedefs.now ++ structures.now)) }
 {
-    let mut defs = joined(alloc, functions, macros, typedefs, structures)?;
+    let mut defs = all_defs(alloc, functions, macros, typedefs, structures)?;
     order_defs(defs.as_mut_slice());
     Ok(defs)
 }
@@ -184,7 +222,7 @@ pub(crate) fn ordered_calls(
 ) -> Result<Vec<Call>, AllocError>
     ensures { IfOk result (λ calls. calls.items ≡ in_order call_key (functions.now ++ macros.now)) }
 {
-    let mut calls = merged(alloc, functions, macros)?;
+    let mut calls = all_calls(alloc, functions, macros)?;
     order_calls(calls.as_mut_slice());
     Ok(calls)
 }

@@ -69,37 +69,26 @@ fn inside_after(more: u32, role: WideRole) -> Attribute
 }
 
 impl Attribute {
-    /// Whether the first of these tokens is left out.
+    /// The state after the first of these tokens, and whether that one is left out.
     #[inline(always)]
-    pub(crate) fn leaves_out(self, ahead: &[WideToken]) -> bool
-        ensures { result ≡ leaves_out self ahead.now }
-    {
-        match (self, ahead) {
-            (_, []) => false,
-            (Attribute::Outside, _) => begins_attribute(ahead),
-            (_, [first, ..]) => !ends_attribute(first.role),
-        }
-    }
-
-    /// The state after the first of these tokens.
-    #[inline(always)]
-    pub(crate) fn next(self, ahead: &[WideToken]) -> Attribute
+    pub(crate) fn step(self, ahead: &[WideToken]) -> (Attribute, bool)
         requires { open_count self + 1 < 2 ^ 32 }
-        ensures value { result ≡ next_attribute self ahead.now }
-        ensures small { open_count result ≤ open_count self + 1 }
+        ensures next { result.0 ≡ next_attribute self ahead.now }
+        ensures left_out { result.1 ≡ leaves_out self ahead.now }
+        ensures small { open_count result.0 ≤ open_count self + 1 }
     {
         match (self, ahead) {
-            (_, []) => self,
+            (_, []) => (self, false),
             (Attribute::Outside, _) => {
                 if begins_attribute(ahead) {
-                    Attribute::Begun
+                    (Attribute::Begun, true)
                 } else {
-                    Attribute::Outside
+                    (Attribute::Outside, false)
                 }
             }
-            (_, [first, ..]) if ends_attribute(first.role) => Attribute::Outside,
-            (Attribute::Begun, _) => Attribute::Inside(0),
-            (Attribute::Inside(more), [first, ..]) => inside_after(more, first.role),
+            (_, [first, ..]) if ends_attribute(first.role) => (Attribute::Outside, false),
+            (Attribute::Begun, _) => (Attribute::Inside(0), true),
+            (Attribute::Inside(more), [first, ..]) => (inside_after(more, first.role), true),
         }
     }
 }

@@ -28,6 +28,7 @@ use crate::rules::wide::level::{Level, opened};
 use crate::rules::wide::levels::Levels;
 use crate::rules::wide::machine::WideMachine;
 use crate::rules::wide::opening::{Opening, next_opening, opening_tag};
+use crate::rules::wide::role::WideRole;
 use crate::rules::wide::token::WideToken;
 use std::alloc::{AllocError, Global};
 
@@ -47,7 +48,10 @@ pub(crate) struct Pass {
 pub(crate) fn is_brace(item: &WideToken) -> bool
     ensures { result ≡ is_brace item.now }
 {
-    item.counted || item.role.is_sign(b'{') || item.role.is_sign(b'}') || item.token.is_mark(b'}')
+    match item.role {
+        WideRole::Mark(b'{' | b'}') => true,
+        _ => item.counted || item.token.is_mark(b'}'),
+    }
 }
 
 impl Declaration {

@@ -18,8 +18,9 @@ use crate::rules::functions::{Before, before_after};
 use crate::rules::wide::attribute::{Attribute, ends_attribute};
 use crate::rules::wide::found::Found;
 use crate::rules::wide::joint::Joint;
+use crate::rules::wide::role::wide_role;
 use crate::rules::wide::sight::Sight;
-use crate::rules::wide::token::{WideToken, token_after};
+use crate::rules::wide::token::{WideToken, token_as};
 use crate::rules::wide::window::Window;
 use std::alloc::AllocError;
 
@@ -84,8 +85,8 @@ impl Reader {
         ensures more { length self.new.bare ≤ length self.old.bare + 1 }
     {
         let ahead = self.raw.ahead();
-        let attribute = self.attribute.next(ahead);
-        if !self.attribute.leaves_out(ahead) {
+        let (attribute, is_left_out) = self.attribute.step(ahead);
+        if !is_left_out {
             if let [first, ..] = ahead {
                 self.bare.push(*first);
             }
@@ -324,7 +325,8 @@ impl Reader {
         ensures raw { IfOk result (λ _. length self.new.raw ≤ 2) }
         ensures bare { IfOk result (λ _. length self.new.bare ≤ 4) }
     {
-        let item = token_after(text, before, token);
+        let role = wide_role(text, token);
+        let item = token_as(role, before, token);
         self.next(pass, found, in_block, &item)
     }
 

@@ -1,10 +1,10 @@
 //! Tokens of the code as the wide profile reads them.
-ghost use Rattle.std.specs.Prelude.{◌≡◌, ◌≤◌, length};
-ghost use Rattle.cb_scan.specs.steps.wide.Tokens.{token_after};
+ghost use Rattle.std.specs.Prelude.{◌≡◌};
+ghost use Rattle.cb_scan.specs.steps.wide.Tokens.{token_as};
 
 use crate::lex::token::Token;
 use crate::rules::functions::Before;
-use crate::rules::wide::role::{WideRole, wide_role};
+use crate::rules::wide::role::WideRole;
 
 /// A token of the code: what it is for the wide profile, and whether it is a `{` that counts.
 #[derive(Clone, Copy)]
@@ -28,16 +28,14 @@ impl WideToken {
     }
 }
 
-/// A token of a text, by what is directly before it.
+/// A token with what it is, by what is directly before it.
 #[inline(always)]
-pub(crate) fn token_after(text: &[u8], before: Before, token: &Token) -> WideToken
-    requires order { token.now.span.start ≤ token.now.span.end }
-    requires end { token.now.span.end ≤ length text.now }
-    ensures { result ≡ token_after text.now before token.now }
+pub(crate) fn token_as(role: WideRole, before: Before, token: &Token) -> WideToken
+    ensures { result ≡ token_as role before token.now }
 {
     WideToken {
         token: token.copied(),
-        role: wide_role(text, token),
+        role,
         counted: token.is_mark(b'{') && !matches!(before, Before::Linkage),
     }
 }

@@ -3,5 +3,7 @@ use Rattle.std.proofs.Common.{◌≡◌, drop}
 use Rattle.cb_scan.specs.steps.Ascending.{ascend_from}
 use Rattle.cb_scan.proofs.rules.order.ascend.Given as goal
 
-abbrev pub invariant-loop-call : goal.invariant-loop-call
-invariant-loop-call l = ascend_from l.place (drop l.call-index l.calls) ≡ ascend_from 0 l.calls
+abbrev pub invariant-loop-item : goal.invariant-loop-item
+invariant-loop-item g l =
+    ascend_from g.T.Placed.place_of l.place (drop l.item-index l.items)
+    ≡ ascend_from g.T.Placed.place_of 0 l.items
