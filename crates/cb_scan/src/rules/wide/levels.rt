@@ -15,18 +15,21 @@ use std::marker::Model;
 pub(crate) struct Levels {
     first: Option<Level>,
     around: Vec<Level>,
+    /// Whether the innermost level is a block, which is asked for each token.
+    in_block: bool,
 }
 
 impl Model for Levels {
-    ghost use Rattle.std.specs.Prelude.{List};
+    ghost use Rattle.std.specs.Prelude.{◌≡◌, List};
     ghost use Rattle.cb_scan.specs.declared.rules.wide.level.Level.{Level};
-    ghost use Rattle.cb_scan.specs.steps.wide.Contents.{AreAround, levels_of};
+    ghost use Rattle.cb_scan.specs.steps.wide.Contents.{AreAround, are_in_block, levels_of};
 
     ghost Value = { List Level };
 
     ghost view = { λ l. levels_of l.first l.around.items };
 
-    ghost invariant = { λ l. AreAround l.first l.around.items };
+    ghost invariant = { λ l. AreAround l.first l.around.items
+        × (l.in_block ≡ are_in_block (levels_of l.first l.around.items)) };
 }
 
 impl Levels {
@@ -36,6 +39,7 @@ impl Levels {
         Levels {
             first: None,
             around: Vec::new(alloc),
+            in_block: false,
         }
     }
 
@@ -52,7 +56,7 @@ impl Levels {
     pub(crate) fn are_in_block(&self) -> bool
         ensures { result ≡ are_in_block self.now }
     {
-        matches!(self.first, Some(Level::Block))
+        self.in_block
     }
 
     /// The tag around members that are directly inside.
@@ -75,6 +79,7 @@ impl Levels {
             None => {}
         }
         self.first = Some(level);
+        self.in_block = matches!(level, Level::Block);
         Ok(())
     }
 
@@ -84,8 +89,14 @@ impl Levels {
         ensures { self.new ≡ drop 1 self.old }
     {
         match self.around.pop() {
-            Some(Level::Block) => self.first = Some(Level::Block),
-            first => self.first = first,
+            Some(Level::Block) => {
+                self.first = Some(Level::Block);
+                self.in_block = true;
+            }
+            first => {
+                self.first = first;
+                self.in_block = matches!(first, Some(Level::Block));
+            }
         }
     }
 
@@ -96,6 +107,7 @@ impl Levels {
         if item.token.starts_line {
             self.first = None;
             self.around.clear();
+            self.in_block = false;
         } else {
             self.leave();
         }
@@ -121,6 +133,7 @@ impl Levels {
     {
         if let Some(level) = &mut self.first {
             level.add(ahead, item);
+            self.in_block = matches!(level, Level::Block);
         }
     }
 }

@@ -19,7 +19,7 @@ use crate::rules::wide::attribute::{Attribute, ends_attribute};
 use crate::rules::wide::found::Found;
 use crate::rules::wide::joint::Joint;
 use crate::rules::wide::role::wide_role;
-use crate::rules::wide::sight::Sight;
+use crate::rules::wide::sight::Watch;
 use crate::rules::wide::token::{WideToken, token_as};
 use crate::rules::wide::window::Window;
 use std::alloc::AllocError;
@@ -30,7 +30,7 @@ use std::alloc::AllocError;
 pub(crate) struct Reader {
     before: Before,
     attribute: Attribute,
-    sight: Sight,
+    sight: Watch,
     raw: Window,
     bare: Window,
 }
@@ -45,7 +45,7 @@ fn is_mark_of_blocks(token: &Token) -> bool
 
 /// A `{` that opens a block in a block.
 #[inline(always)]
-fn opens_block(before: Before, sight: &Sight, token: &Token) -> bool
+fn opens_block(before: Before, sight: &Watch, token: &Token) -> bool
     ensures { result ≡ opens_block before sight.now token.now }
 {
     token.is_mark(b'{') && !matches!(before, Before::Linkage) && sight.opening().is_none()
@@ -67,7 +67,7 @@ impl Reader {
         Reader {
             before: Before::Anything,
             attribute: Attribute::Outside,
-            sight: Sight::new(),
+            sight: Watch::new(),
             raw: Window::new(),
             bare: Window::new(),
         }
@@ -225,7 +225,7 @@ impl Reader {
         }
         let ahead = [*item];
         pass.take(found, &ahead, item)?;
-        self.sight = Sight::new();
+        self.sight = Watch::new();
         Ok(())
     }
 
@@ -295,7 +295,7 @@ impl Reader {
     }
 
     /// A token of a text, by what is directly before it, as the pass reads it. It stands apart for
-    /// the reason that `Sight::look_after` has.
+    /// the reason that `Watch::look_after` has.
     fn read_after(
         &mut self,
         pass: &mut Joint,
@@ -366,17 +366,17 @@ impl Reader {
         }
         if in_block && token.is_mark(b';') && !pass.is_in_file() {
             pass.open(None);
-            self.sight = Sight::new();
+            self.sight = Watch::new();
             return Ok(());
         }
         if in_block && opens_block(before, &self.sight, token) && !pass.is_in_file() {
             pass.enter()?;
-            self.sight = Sight::new();
+            self.sight = Watch::new();
             return Ok(());
         }
         if in_block && closes_block(token) && pass.is_nested() {
             pass.leave();
-            self.sight = Sight::new();
+            self.sight = Watch::new();
             return Ok(());
         }
         self.read_after(pass, found, text, before, in_block, token)

@@ -3,7 +3,8 @@
 ghost use Rattle.std.specs.Prelude.{◌≡◌, ◌+◌, ◌<◌, ◌≤◌, ◌^◌, length};
 ghost use Rattle.cb_scan.specs.lex.Tokens.{bytes_of};
 ghost use Rattle.cb_scan.specs.steps.wide.Tokens.{token_after};
-ghost use Rattle.cb_scan.specs.steps.wide.Sights.{is_idle, look, look_inside, open_in_phase};
+ghost use Rattle.cb_scan.specs.steps.wide.Sights.{is_early, is_idle, look, look_inside};
+ghost use Rattle.cb_scan.specs.steps.wide.Sights.{open_in_phase};
 ghost use Rattle.cb_scan.specs.steps.wide.Sights.{phase_after, phase_past, phase_past_other};
 ghost use Rattle.cb_scan.specs.steps.wide.Sights.{phase_past_paren, phase_past_word, seen_after};
 ghost use Rattle.cb_scan.specs.steps.wide.Sights.{sight_opening, sight_start};
@@ -13,6 +14,7 @@ use crate::rules::functions::Before;
 use crate::rules::wide::opening::{Opening, next_opening};
 use crate::rules::wide::role::{is_attribute_word, wide_role};
 use crate::rules::wide::token::{WideToken, token_as};
+use std::marker::Model;
 
 /// How far an attribute has come.
 #[derive(Clone, Copy)]
@@ -45,6 +47,14 @@ fn phase_after(item: &WideToken) -> Phase
     } else {
         Phase::Clear
     }
+}
+
+/// No attribute has begun.
+#[inline(always)]
+fn is_early(phase: Phase) -> bool
+    ensures { result ≡ is_early phase }
+{
+    !matches!(phase, Phase::Inside(_))
 }
 
 /// The phase after a word that begins no body.
@@ -102,7 +112,7 @@ fn phase_past(phase: Phase, text: &[u8], token: &Token) -> Option<Phase>
 
 impl Sight {
     /// The beginning of a block.
-    pub(crate) fn new() -> Sight
+    fn new() -> Sight
         ensures { result ≡ sight_start }
     {
         Sight {
@@ -113,7 +123,7 @@ impl Sight {
     }
 
     /// What a `{` would open here.
-    pub(crate) fn opening(&self) -> Option<Opening>
+    fn opening(&self) -> Option<Opening>
         ensures { result ≡ sight_opening self.now }
     {
         match self.phase {
@@ -156,7 +166,7 @@ impl Sight {
 
     /// After a token.
     #[inline(always)]
-    pub(crate) fn look(&mut self, item: &WideToken)
+    fn look(&mut self, item: &WideToken)
         requires { open_in_phase self.old.phase + 1 < 2 ^ 32 }
         ensures value { self.new ≡ look self.old item.now }
         ensures small { open_in_phase self.new.phase ≤ open_in_phase self.old.phase + 1 }
@@ -179,6 +189,63 @@ impl Sight {
         }
     }
 
+    /// Nothing is to open, and no attribute has begun.
+    #[inline(always)]
+    fn is_idle(&self) -> bool
+        ensures { result ≡ is_idle self.now }
+    {
+        self.opening.is_none() && self.before.is_none() && is_early(self.phase)
+    }
+}
+
+/// A sight, and whether it is idle, which is asked for each token.
+#[derive(Drop)]
+pub(crate) struct Watch {
+    sight: Sight,
+    idle: bool,
+}
+
+impl Model for Watch {
+    ghost use Rattle.std.specs.Prelude.{◌≡◌};
+    ghost use Rattle.cb_scan.specs.declared.rules.wide.sight.Sight.{Sight};
+    ghost use Rattle.cb_scan.specs.steps.wide.Sights.{is_idle};
+
+    ghost Value = { Sight };
+
+    ghost view = { λ w. w.sight };
+
+    ghost invariant = { λ w. w.idle ≡ is_idle w.sight };
+}
+
+impl Watch {
+    /// The beginning of a block.
+    pub(crate) fn new() -> Watch
+        ensures { result ≡ sight_start }
+    {
+        Watch {
+            sight: Sight::new(),
+            idle: true,
+        }
+    }
+
+    /// What a `{` would open here.
+    pub(crate) fn opening(&self) -> Option<Opening>
+        ensures { result ≡ sight_opening self.now }
+    {
+        self.sight.opening()
+    }
+
+    /// After a token.
+    #[inline(always)]
+    pub(crate) fn look(&mut self, item: &WideToken)
+        requires { open_in_phase self.old.phase + 1 < 2 ^ 32 }
+        ensures value { self.new ≡ look self.old item.now }
+        ensures small { open_in_phase self.new.phase ≤ open_in_phase self.old.phase + 1 }
+    {
+        self.sight.look(item);
+        self.idle = self.sight.is_idle();
+    }
+
     /// After a token of a text, by what is directly before it. It stands apart, since what it makes
     /// of the token would else be cleared in memory for each token that says nothing.
     fn look_after(&mut self, text: &[u8], before: Before, token: &Token)
@@ -192,14 +259,6 @@ impl Sight {
         self.look(&token_as(role, before, token));
     }
 
-    /// Nothing is to open, and no attribute has begun.
-    #[inline(always)]
-    fn is_idle(&self) -> bool
-        ensures { result ≡ is_idle self.now }
-    {
-        self.opening.is_none() && self.before.is_none() && !matches!(self.phase, Phase::Inside(_))
-    }
-
     /// After a token of a text, by what is directly before it. Most tokens say nothing.
     #[inline(always)]
     pub(crate) fn glance(&mut self, text: &[u8], before: Before, token: &Token)
@@ -209,9 +268,10 @@ impl Sight {
         ensures value { self.new ≡ look self.old (token_after text.now before token.now) }
         ensures small { open_in_phase self.new.phase ≤ open_in_phase self.old.phase + 1 }
     {
-        if self.is_idle() {
-            if let Some(phase) = phase_past(self.phase, text, token) {
-                self.phase = phase;
+        if self.idle {
+            if let Some(phase) = phase_past(self.sight.phase, text, token) {
+                self.sight.phase = phase;
+                self.idle = is_early(phase);
                 return;
             }
         }
