@@ -176,12 +176,13 @@ impl Declaration {
         ensures value { self.new ≡ grown self.old ahead.now item.now }
         ensures small { self.new.count ≤ self.old.count + 1 }
     {
-        let is_outer = self.count == 0;
-        if is_outer {
+        if self.count == 0 {
             self.note(item);
+            self.part.add(ahead, item, true);
+        } else {
+            self.part.add(ahead, item, false);
         }
         self.closes = closes(item);
         self.count = nesting_after(&item.token, self.count);
-        self.part.add(ahead, item, is_outer);
     }
 }
