@@ -7,18 +7,21 @@ use Rattle.std.specs.List.{AllByRecursion}
 use Rattle.std.specs.Option.{is_none, option_map, option_to_list}
 use Rattle.cb_scan.specs.declared.facts.Call.{Call}
 use Rattle.cb_scan.specs.declared.facts.Def.{Def}
+use Rattle.cb_scan.specs.declared.lex.piece.Span.{Span}
 use Rattle.cb_scan.specs.declared.lex.token.Token.{Token}
+use Rattle.cb_scan.specs.lex.Tokens.{is_mark, is_name_token}
+use Rattle.cb_scan.specs.Bytes.{open_paren}
 use Rattle.cb_scan.specs.declared.rules.wide.machine.WideMachine.{WideMachine}
 use Rattle.cb_scan.specs.declared.rules.wide.opening.Opening.{Opening}
 use Rattle.cb_scan.specs.declared.rules.wide.reader.Reader.{Reader}
 use Rattle.cb_scan.specs.declared.rules.wide.token.WideToken.{WideToken}
 use Rattle.cb_scan.specs.rules.Depth.{depth_after}
-use Rattle.cb_scan.specs.rules.Uses.{calls_in}
+use Rattle.cb_scan.specs.rules.Uses.{call_of, calls_in}
 use Rattle.cb_scan.specs.rules.wide.Attributes.{ends_attribute, without_attributes}
 use Rattle.cb_scan.specs.rules.wide.Bodies.{Body}
 use Rattle.cb_scan.specs.rules.wide.Functions.{wide_functions}
 use Rattle.cb_scan.specs.rules.wide.Levels.{wide_tokens}
-use Rattle.cb_scan.specs.steps.Functions.{before_after, call_before}
+use Rattle.cb_scan.specs.steps.Functions.{before_after, call_before, callable}
 use Rattle.cb_scan.specs.steps.wide.Ahead.{up_to_mark}
 use Rattle.cb_scan.specs.steps.wide.Contents.{are_in_block}
 use Rattle.cb_scan.specs.steps.wide.Declarations as declarations
@@ -58,6 +61,28 @@ calls_read text r t last [] = []
 calls_read text r t last (token ∷ ts) =
     option_to_list (call_before t.pass.body last token)
     ++ calls_read text (reader_after text r t token) (taken_after text r t token) (Some token) ts
+
+-- what is no name is not called
+callable_call : (body : Option Span) (x t : Token)
+    → call_before body (callable x) t ≡ call_before body (Some x) t
+callable_call None x t = refl
+callable_call (Some caller) x t = by_name (is_name_token x.role) refl
+  where
+    by_name : (b : Bool) → is_name_token x.role ≡ b
+        → call_before (Some caller) (if b then Some x else None) t
+        ≡ call_before (Some caller) (Some x) t
+    by_name true e = refl
+    by_name false e =
+        λ i. if sym e i && is_mark open_paren t.role then Some (call_of caller x) else None
+
+pub callable_read : (text : List ℕ) (r : Reader) (t : Taken) (x : Token) (ts : List Token)
+    → calls_read text r t (callable x) ts ≡ calls_read text r t (Some x) ts
+unfolding calls_read
+callable_read text r t x [] = refl
+callable_read text r t x (token ∷ ts) =
+    ap (λ c. option_to_list c
+    ++ calls_read text (reader_after text r t token) (taken_after text r t token) (Some token) ts)
+    (callable_call t.pass.body x token)
 
 -- what is known of the body that the next token is in
 abbrev inside_of : Taken → Option Token → Inside

@@ -12,7 +12,7 @@ use Rattle.cb_scan.specs.declared.rules.heads.Head.{Head}
 use Rattle.cb_scan.specs.declared.rules.scope.Range.{Range}
 use Rattle.cb_scan.specs.declared.lex.token.Token.{Token}
 use Rattle.cb_scan.specs.rules.Uses.{call_of, is_call}
-use Rattle.cb_scan.specs.lex.Tokens.{is_mark, is_extern, is_str}
+use Rattle.cb_scan.specs.lex.Tokens.{is_mark, is_extern, is_name_token, is_str}
 use Rattle.cb_scan.specs.rules.Depth.{depth_after}
 use Rattle.cb_scan.specs.steps.Heads.{add, defined, empty_head, next_opened}
 use Rattle.cb_scan.specs.Bytes.{close_brace, open_brace, semicolon}
@@ -107,6 +107,10 @@ call_before (Some caller) (Some name) t =
     if is_call name t then Some (call_of caller name) else None
 call_before (Some caller) None t = None
 call_before None last t = None
+
+-- a token, if it is a name, which alone may be called
+abbrev pub callable : Token → Option Token
+callable t = if is_name_token t.role then Some t else None
 
 -- the call of the token before
 abbrev pub called : Machine → Token → Option Call

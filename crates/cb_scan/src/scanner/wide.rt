@@ -11,7 +11,7 @@ ghost use Rattle.cb_scan.specs.rules.Scope.{macro_ranges, ranges_of};
 ghost use Rattle.cb_scan.specs.rules.Uses.{calls_in, include_of, macro_calls, used};
 ghost use Rattle.cb_scan.specs.rules.wide.Kinds.{functions_of, wide_function_def};
 ghost use Rattle.cb_scan.specs.steps.Cut.{pieces};
-ghost use Rattle.cb_scan.specs.steps.Functions.{call_before};
+ghost use Rattle.cb_scan.specs.steps.Functions.{call_before, callable};
 ghost use Rattle.cb_scan.specs.steps.wide.Gathering.{declared_in, objects_in, rules_with};
 ghost use Rattle.cb_scan.specs.steps.wide.Pass.{pass_start};
 
@@ -56,6 +56,14 @@ fn call_before(body: Option<Span>, last: Option<Token>, token: &Token) -> Option
         }),
         _ => None,
     }
+}
+
+/// A token, if it is a name, which alone may be called. So little is kept of most tokens.
+#[inline(always)]
+fn callable(token: Token) -> Option<Token>
+    ensures { result ≡ callable token }
+{
+    if token.is_name() { Some(token) } else { None }
 }
 
 /// The one pass over a text: each piece is looked at once. What it gathers is handed in empty.
@@ -107,7 +115,7 @@ fn fill(uses: bool, text: &[u8], pass: &mut Joint, made: &mut Gathered) -> Resul
             if line.is_code() {
                 push_some(&mut made.calls, call_before(pass.body(), last, &token))?;
                 reader.add(pass, &mut made.found, text, &token)?;
-                last = Some(token);
+                last = callable(token);
             }
         } else if is_newline(lined.piece.class) {
             made.lines.end(&line, lined.piece.span.start)?;

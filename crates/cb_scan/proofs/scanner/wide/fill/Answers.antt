@@ -17,12 +17,13 @@ use Rattle.cb_scan.specs.steps.Lined.{Within}
 use Rattle.cb_scan.specs.steps.wide.Gathering.{declared_in}
 use Rattle.cb_scan.specs.steps.wide.Lists.{Lists}
 use Rattle.cb_scan.specs.steps.wide.Pass.{most_in}
-use Rattle.cb_scan.specs.steps.wide.Reading.{held_len, most_left_out, reader_start, the_taken}
+use Rattle.cb_scan.specs.steps.wide.Reading.{held_len, most_left_out, reader_after, reader_start}
+use Rattle.cb_scan.specs.steps.wide.Reading.{taken_after, the_taken}
 use Rattle.cb_scan.proofs.CodeLines.{code_is, uses_are}
 use Rattle.cb_scan.proofs.IncludeLines.{includes_are}
 use Rattle.cb_scan.proofs.MacroLines.{macro_calls_are, macro_ranges_are, macros_are}
 use Rattle.cb_scan.proofs.GatherLemmas.{appended, code_off, code_on, kept_on, walk_end, walk_on}
-use Rattle.cb_scan.proofs.WideCallsRead.{calls_read}
+use Rattle.cb_scan.proofs.WideCallsRead.{callable_read, calls_read}
 use Rattle.cb_scan.proofs.WideGathered.{beginning, calls_gathered, gathered_at_end}
 use Rattle.cb_scan.proofs.WideWhole.{read_all}
 use Rattle.cb_scan.proofs.scanner.wide.fill.Goals as goal
@@ -94,14 +95,18 @@ loop-lined-preserved-then-is_code c =
     let r = c.loop-lined.reader in
     let t = the_taken c.loop-lined.pass c.loop-lined.made.found in
     let token = c.token_of-token.result in
+    let here = option_to_list (call_before c.loop-lined.pass.body c.loop-lined.last token) in
     record {
       read = (λ i. read_all text (code.reader i) (code.taken i) rest)
           ∙ sym (ap (read_all text r t) on) ∙ so_far.read;
       calls_found = appended _ _ _ _ _ _ (told ∙ ap (λ o. c.loop-lined.made.calls.items ++ option_to_list o)
           (c.call_before.ensures ∙ (λ i. call_before (c.body.ensures i) c.loop-lined.last token)))
           (ap (calls_read text r t c.loop-lined.last) on
-          ∙ (λ i. option_to_list (call_before c.loop-lined.pass.body c.loop-lined.last token)
-          ++ calls_read text (sym code.reader i) (sym code.taken i) (Some token) rest))
+          ∙ ap (λ l. here ++ l)
+          (sym (callable_read text (reader_after text r t token) (taken_after text r t token)
+          token rest))
+          ∙ (λ i. here ++ calls_read text (sym code.reader i) (sym code.taken i)
+          (sym c.callable-last.ensures i) rest))
           so_far.calls_found;
       names_found = appended _ _ _ _ _ _ lines.names
           (kept_on c.args.uses _ _ _
