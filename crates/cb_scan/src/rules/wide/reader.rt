@@ -18,7 +18,7 @@ use crate::rules::functions::{Before, before_after};
 use crate::rules::wide::attribute::{Attribute, ends_attribute};
 use crate::rules::wide::found::Found;
 use crate::rules::wide::joint::Joint;
-use crate::rules::wide::role::role_from;
+use crate::rules::wide::role::wide_role;
 use crate::rules::wide::sight::Watch;
 use crate::rules::wide::token::{WideToken, token_as};
 use crate::rules::wide::window::Window;
@@ -325,8 +325,7 @@ impl Reader {
         ensures raw { IfOk result (λ _. length self.new.raw ≤ 2) }
         ensures bare { IfOk result (λ _. length self.new.bare ≤ 4) }
     {
-        let bytes = &text[token.span.start as usize..token.span.end as usize];
-        let role = role_from(token.role, bytes);
+        let role = wide_role(text, token);
         let item = token_as(role, before, token);
         self.next(pass, found, in_block, &item)
     }

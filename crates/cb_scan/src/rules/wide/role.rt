@@ -1,15 +1,15 @@
 //! What a token is for the rules of the wide profile.
-ghost use Rattle.std.specs.Prelude.{◌≡◌};
+ghost use Rattle.std.specs.Prelude.{◌≡◌, ◌≤◌, length};
 ghost use Rattle.cb_scan.specs.declared.lex.token.Role.TheVariants.{Other};
 ghost use Rattle.cb_scan.specs.rules.wide.Words.{attribute_words, is_among, is_attribute_word};
 ghost use Rattle.cb_scan.specs.rules.wide.Words.{is_keyword, is_literal, is_sign, is_specifier};
 ghost use Rattle.cb_scan.specs.rules.wide.Words.{is_statement_word, is_text, is_underscored};
 ghost use Rattle.cb_scan.specs.rules.wide.Words.{is_wide_name, is_wide_word, name_role};
 ghost use Rattle.cb_scan.specs.rules.wide.Words.{reserved_role, role_from, specifier_words};
-ghost use Rattle.cb_scan.specs.rules.wide.Words.{statement_words, word_role};
+ghost use Rattle.cb_scan.specs.rules.wide.Words.{statement_words, wide_role, word_role};
 
 use crate::lex::name::is_among;
-use crate::lex::token::{Role, WordKind};
+use crate::lex::token::{Role, Token, WordKind};
 
 /// What a token is for the rules of the wide profile.
 #[derive(Clone, Copy)]
@@ -147,12 +147,15 @@ fn other_role(bytes: &[u8]) -> WideRole
     }
 }
 
-/// What a token is, by its role and its bytes. They are handed on by value, so that the token of
-/// those who ask need not stand in memory.
-pub(crate) fn role_from(role: Role, bytes: &[u8]) -> WideRole
-    ensures { result ≡ role_from role bytes.now }
+/// What a token of a text is.
+#[inline(always)]
+pub(crate) fn wide_role(text: &[u8], token: &Token) -> WideRole
+    requires order { token.now.span.start ≤ token.now.span.end }
+    requires end { token.now.span.end ≤ length text.now }
+    ensures { result ≡ wide_role text.now token.now }
 {
-    match role {
+    let bytes = &text[token.span.start as usize..token.span.end as usize];
+    match token.role {
         Role::Word(kind) => word_role(kind, bytes),
         Role::Mark(byte) => WideRole::Mark(byte),
         Role::Str => WideRole::Str,

@@ -12,7 +12,7 @@ ghost use Rattle.cb_scan.specs.steps.wide.Sights.{sight_opening, sight_start};
 use crate::lex::token::{Role, Token, WordKind};
 use crate::rules::functions::Before;
 use crate::rules::wide::opening::{Opening, next_opening};
-use crate::rules::wide::role::{is_attribute_word, role_from};
+use crate::rules::wide::role::{is_attribute_word, wide_role};
 use crate::rules::wide::token::{WideToken, token_as};
 use std::marker::Model;
 
@@ -255,8 +255,7 @@ impl Watch {
         ensures value { self.new ≡ look self.old (token_after text.now before token.now) }
         ensures small { open_in_phase self.new.phase ≤ open_in_phase self.old.phase + 1 }
     {
-        let bytes = &text[token.span.start as usize..token.span.end as usize];
-        let role = role_from(token.role, bytes);
+        let role = wide_role(text, token);
         self.look(&token_as(role, before, token));
     }
 
