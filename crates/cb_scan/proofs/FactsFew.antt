@@ -21,7 +21,7 @@ use Rattle.cb_scan.specs.rules.Scope.{scope}
 use Rattle.cb_scan.specs.rules.Uses.{angle_header}
 use Rattle.cb_scan.specs.rules.Uses.{header_between, header_of}
 use Rattle.cb_scan.specs.rules.Uses.{include_of, includes}
-use Rattle.cb_scan.specs.rules.Uses.{string_header, uses}
+use Rattle.cb_scan.specs.rules.Uses.{string_header}
 use Rattle.cb_scan.specs.lex.Tokens.{bytes_of}
 use Rattle.cb_scan.specs.steps.Cut.{pieces}
 use Rattle.cb_scan.specs.steps.Quote.{is_closed}

@@ -22,7 +22,7 @@ use Rattle.cb_scan.specs.steps.wide.Along.{items}
 use Rattle.cb_scan.specs.steps.wide.Called.{after_enclosed, enclosed_start, is_more, next_calls}
 use Rattle.cb_scan.specs.steps.wide.Called.{next_enclosed}
 use Rattle.cb_scan.specs.steps.wide.Parts as parts
-use Rattle.cb_scan.specs.steps.wide.Parts.{grown_part, part_start}
+use Rattle.cb_scan.specs.steps.wide.Parts.{grown_part}
 use Rattle.cb_scan.specs.steps.wide.Pointers.{next_pointer}
 use Rattle.cb_scan.specs.steps.wide.Tails as tails
 use Rattle.cb_scan.specs.steps.wide.Tails.{name_before, next_tail, or_first}

@@ -17,7 +17,7 @@ use Rattle.cb_scan.specs.steps.wide.Contents.{are_in_block, closed_by, defined_b
 use Rattle.cb_scan.specs.steps.wide.Contents.{next_levels, tag_inside}
 use Rattle.cb_scan.specs.steps.wide.Declarations.{before_in_file}
 use Rattle.cb_scan.specs.steps.wide.Functions as functions
-use Rattle.cb_scan.specs.steps.wide.Functions.{found, function_here, headed}
+use Rattle.cb_scan.specs.steps.wide.Functions.{found}
 use Rattle.cb_scan.specs.steps.wide.Levels.{opened}
 use Rattle.cb_scan.specs.steps.wide.Lists.{Lists}
 use Rattle.cb_scan.specs.steps.wide.Openings.{next_opening}

@@ -193,12 +193,6 @@ module _ (text : List ℕ) (r : Reader) (t : Taken) (token : Token)
       → (item_of text r token).role ≡ wide.Mark b
   brace_role b is = ap (λ k. role_from k (bytes_of text token.span)) (mark_is b token.role is)
 
-  turned_is : ends_attribute (item_of text r token).role ≡ true
-      → record (passed r token) { sight = sight_start } ≡ reader_after text r t token
-  turned_is ends =
-      sym (λ i. if ends i then turned (block i) (passed r token)
-      else read_on (block i) (passed r token) (item_of text r token))
-
   taken_is : ends_attribute (item_of text r token).role ≡ true
       → take_first (opened_by (sight_opening r.sight) t) (item_of text r token ∷ [])
       (item_of text r token)
@@ -211,9 +205,6 @@ module _ (text : List ℕ) (r : Reader) (t : Taken) (token : Token)
   -- a `{`
   module _ (opens : is_mark 123 token.role ≡ true) (plain : is_after_linkage r.before ≡ false)
       (none : sight_opening r.sight ≡ None) where
-    pub reader_entered : record (passed r token) { sight = sight_start } ≡ reader_after text r t token
-    reader_entered = turned_is (ap ends_attribute (brace_role 123 opens))
-
     pub taken_entered : record t { pass = entered t.pass } ≡ taken_after text r t token
     taken_entered =
         let x = item_of text r token in
@@ -229,9 +220,6 @@ module _ (text : List ℕ) (r : Reader) (t : Taken) (token : Token)
   -- a `}`
   module _ (closes : is_mark 125 token.role ≡ true) (within : token.starts_line ≡ false)
       (nested : 2 ≤ t.pass.machine.depth) where
-    pub reader_left : record (passed r token) { sight = sight_start } ≡ reader_after text r t token
-    reader_left = turned_is (ap ends_attribute (brace_role 125 closes))
-
     pub taken_left : record t { pass = left t.pass } ≡ taken_after text r t token
     taken_left =
         let x = item_of text r token in

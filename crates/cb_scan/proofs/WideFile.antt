@@ -15,7 +15,7 @@ use Rattle.cb_scan.specs.rules.wide.Words.{is_extern_word, is_sign, is_static_wo
 use Rattle.cb_scan.specs.steps.wide.Declarations as steps
 use Rattle.cb_scan.specs.steps.wide.Declarations.{Given, closes, declaration_start, file_from}
 use Rattle.cb_scan.specs.steps.wide.Declarations.{given, grown, is_block, is_linkage}
-use Rattle.cb_scan.specs.steps.wide.Declarations.{is_over, may_name, next_in_file, next_part_of}
+use Rattle.cb_scan.specs.steps.wide.Declarations.{may_name, next_in_file, next_part_of}
 use Rattle.cb_scan.proofs.WideCuts.{Known, after, equals_more, here, known, known_after, level_is}
 use Rattle.cb_scan.proofs.WideCuts.{next, over_next}
 use Rattle.cb_scan.proofs.WideDeclarations.{of_part}
