@@ -30,9 +30,9 @@ use Rattle.cb_scan.specs.steps.wide.Openings.{opening_tag, tag_out}
 use Rattle.cb_scan.specs.steps.wide.Pass.{Taken, entered, function_found, is_block, left}
 use Rattle.cb_scan.specs.steps.wide.Pass.{next_body, next_file, next_lists, next_of_file, next_pass}
 use Rattle.cb_scan.specs.steps.wide.Pass.{part_at, parts_here, range_closed, take_first}
-use Rattle.cb_scan.specs.steps.wide.Reading.{all_taken, item_of, opened_by, passed, read_on}
-use Rattle.cb_scan.specs.steps.wide.Reading.{reader_after, taken_after, taken_on, turned}
-use Rattle.cb_scan.specs.steps.wide.Sights.{sight_opening, sight_start}
+use Rattle.cb_scan.specs.steps.wide.Reading.{all_taken, item_of, opened_by, passed, taken_after}
+use Rattle.cb_scan.specs.steps.wide.Reading.{taken_on}
+use Rattle.cb_scan.specs.steps.wide.Sights.{sight_opening}
 use Rattle.cb_scan.proofs.WideBlocks.{kept_levels, none_defined}
 use Rattle.cb_scan.proofs.WideEnds.{mark_is}
 use Rattle.cb_scan.proofs.WideTaken.{none_opened}
