@@ -49,7 +49,7 @@ fn begins_attribute(ahead: &[WideToken]) -> bool
 pub(crate) fn ends_attribute(role: WideRole) -> bool
     ensures { result ≡ ends_attribute role }
 {
-    role.is_sign(b';') || role.is_sign(b'{') || role.is_sign(b'}')
+    matches!(role, WideRole::Mark(b';' | b'{' | b'}'))
 }
 
 /// After a token in the parentheses of an attribute, so many of them open besides the first.

@@ -115,7 +115,11 @@ impl Declaration {
     pub(crate) fn ends_part(&self, item: &WideToken) -> bool
         ensures { result ≡ ends_part self.now item.now }
     {
-        item.role.is_sign(b';') || (self.count == 0 && item.role.is_sign(b','))
+        match item.role {
+            WideRole::Mark(b';') => true,
+            WideRole::Mark(b',') => self.count == 0,
+            _ => false,
+        }
     }
 
     /// Whether the part that is open can name something.
@@ -176,8 +180,8 @@ impl Declaration {
         if is_outer {
             self.note(item);
         }
-        self.part.add(is_outer, ahead, item);
         self.closes = closes(item);
         self.count = nesting_after(&item.token, self.count);
+        self.part.add(ahead, item, is_outer);
     }
 }

@@ -75,7 +75,7 @@ impl WideHead {
             self.found = self.declared();
             self.part = Part::new(false);
         } else {
-            self.part.add(is_outer, ahead, item);
+            self.part.add(ahead, item, is_outer);
         }
         self.count = nesting_after(&item.token, self.count);
     }

@@ -24,7 +24,7 @@ pub(crate) struct Part {
 fn begins_value(is_outer: bool, item: &WideToken) -> bool
     ensures { result ≡ begins_value is_outer item.now }
 {
-    is_outer && (item.role.is_sign(b'=') || item.role.is_sign(b':'))
+    is_outer && matches!(item.role, WideRole::Mark(b'=' | b':'))
 }
 
 /// A word, a string, a brace, `*`, or one of the parentheses and brackets.
@@ -72,7 +72,7 @@ impl Part {
 
     /// After the first of these tokens. The value is passed over.
     #[inline(always)]
-    pub(crate) fn add(&mut self, is_outer: bool, ahead: &[WideToken], item: &WideToken)
+    pub(crate) fn add(&mut self, ahead: &[WideToken], item: &WideToken, is_outer: bool)
         ensures { self.new ≡ next_part self.old is_outer ahead.now item.now }
     {
         if self.has_value {

@@ -21,6 +21,7 @@ ghost use Rattle.cb_scan.specs.steps.wide.Pass.{range_closed};
 
 use crate::facts::Def;
 use crate::lex::piece::Span;
+use crate::lex::token::Role;
 use crate::rules::scope::Range;
 use crate::rules::wide::declaration::Declaration;
 use crate::rules::wide::found::Found;
@@ -48,9 +49,9 @@ pub(crate) struct Pass {
 pub(crate) fn is_brace(item: &WideToken) -> bool
     ensures { result ≡ is_brace item.now }
 {
-    match item.role {
-        WideRole::Mark(b'{' | b'}') => true,
-        _ => item.counted || item.token.is_mark(b'}'),
+    match (item.role, item.token.role) {
+        (WideRole::Mark(b'{' | b'}'), _) | (_, Role::Mark(b'}')) => true,
+        _ => item.counted,
     }
 }
 
