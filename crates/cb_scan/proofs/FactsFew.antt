@@ -11,7 +11,7 @@ use Rattle.cb_scan.specs.declared.facts.Include.{Include}
 use Rattle.cb_scan.specs.declared.lex.piece.Piece.{Piece}
 use Rattle.cb_scan.specs.declared.lex.token.Token.{Token}
 use Rattle.cb_scan.specs.Bytes.{greater, less}
-use Rattle.cb_scan.specs.Definitions.{calls, facts_of}
+use Rattle.cb_scan.specs.Definitions.{facts_of}
 use Rattle.cb_scan.specs.lex.Tokens.{has_kind, is_mark, is_significant}
 use Rattle.cb_scan.specs.lex.Tokens.{is_str, kind_is_include, token_of, tokens}
 use Rattle.cb_scan.specs.rules.Code.{directives, is_directive, is_newline, logical_lines}

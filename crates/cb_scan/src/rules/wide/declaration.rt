@@ -184,6 +184,5 @@ impl Declaration {
         }
         self.closes = closes(item);
         self.count = nesting_after(&item.token, self.count);
-        self.part.add(ahead, item, is_outer);
     }
 }
