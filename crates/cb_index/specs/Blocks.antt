@@ -8,6 +8,11 @@ pub record Parted (T : Type 0) : Type 0 where
   pub used : List (List T)
   pub count : ℕ
 
+-- the elements of a list, and for how many there is room
+pub record Listing (T : Type 0) : Type 0 where
+  pub items : List T
+  pub room : ℕ
+
 -- the elements of blocks, one block after another
 abbrev pub joined : {T : Type 0} → List (List T) → List T
 joined blocks = flat_map (λ block. block) blocks

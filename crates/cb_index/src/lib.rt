@@ -29,9 +29,10 @@ mod index;
 mod order;
 mod sort;
 
-// What is kept in blocks with places in them; what is lent of these: the elements between two
-// places, and the files that are shown.
+// What is kept in blocks with places in them, and lists in blocks; what is lent of these: the
+// elements between two places, and the files that are shown.
 mod blocks;
+mod list;
 mod run;
 
 // The uses and calls of one key in a version, the links between them, and those whose rows are

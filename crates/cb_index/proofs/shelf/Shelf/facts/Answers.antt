@@ -23,7 +23,7 @@ asked-requires c =
     let is =
     subst (λ (s : Shelved). IsIndex s.archive s.shown x)
     (sym c.self.view_is) c.index-index.ensures.index in
-    in_its_order x.kind c.self.inside.archive c.self.inside.shown.files x refl is
+    in_its_order x.kind c.self.inside.archive c.self.inside.shown.items x refl is
 
 -- ---- by the index
 pub returns-then-is_flushed-clause-rows : goal.returns-then-is_flushed-clause-rows
@@ -37,13 +37,13 @@ returns-then-is_flushed-clause-rows c =
     subst (λ (s : Shelved). IsIndex s.archive s.shown x)
     (sym c.self.view_is) c.index-index.ensures.index in
     let held =
-    all_held (Facts kind) s.archive s.shown.files x c.index-index.ensures.kind
+    all_held (Facts kind) s.archive s.shown.items x c.index-index.ensures.kind
     (c.is_flushed.ensures c.if-is_flushed.true) is in
     c.held.ensures.rows
     ∙ ap (facts_in kind s.archive) (c.asked.ensures
     ∙ ap (λ k. filter (has_key (keyer_of k) s.archive (prefix_of k key) key) x.held)
     c.index-index.ensures.kind)
-    ∙ rows_of_facts kind s.archive key s.shown.files kept.there kept.ascending x.held held
+    ∙ rows_of_facts kind s.archive key s.shown.items kept.there kept.ascending x.held held
     ∙ ap (λ (v : Shelved). facts_named v.archive.profile kind key (files v)) c.self.view_is
 
 pub returns-then-is_flushed-clause-new : goal.returns-then-is_flushed-clause-new
@@ -57,13 +57,13 @@ returns-then-is_flushed-clause-new c =
     subst (λ (s : Shelved). IsIndex s.archive s.shown x)
     (sym c.self.view_is) c.index-index.ensures.index in
     let held =
-    all_held (Facts kind) s.archive s.shown.files x c.index-index.ensures.kind
+    all_held (Facts kind) s.archive s.shown.items x c.index-index.ensures.kind
     (c.is_flushed.ensures c.if-is_flushed.true) is in
     c.held.ensures.new
     ∙ ap (given_in false kind s.archive) (c.asked.ensures
     ∙ ap (λ k. filter (has_key (keyer_of k) s.archive (prefix_of k key) key) x.held)
     c.index-index.ensures.kind)
-    ∙ facts_new kind s.archive key s.shown.files kept.there kept.ascending x.held held
+    ∙ facts_new kind s.archive key s.shown.items kept.there kept.ascending x.held held
     ∙ ap (λ (v : Shelved). unlike_in_files kind (file_facts v.archive.profile kind key) (files v))
     c.self.view_is
 
@@ -78,13 +78,13 @@ returns-then-is_flushed-clause-counted c =
     subst (λ (s : Shelved). IsIndex s.archive s.shown x)
     (sym c.self.view_is) c.index-index.ensures.index in
     let held =
-    all_held (Facts kind) s.archive s.shown.files x c.index-index.ensures.kind
+    all_held (Facts kind) s.archive s.shown.items x c.index-index.ensures.kind
     (c.is_flushed.ensures c.if-is_flushed.true) is in
     c.held.ensures.counted
     ∙ ap (sum_by (λ (e : Entry). e.rows)) (c.asked.ensures
     ∙ ap (λ k. filter (has_key (keyer_of k) s.archive (prefix_of k key) key) x.held)
     c.index-index.ensures.kind)
-    ∙ facts_counted kind s.archive key s.shown.files kept.there kept.ascending x.held held
+    ∙ facts_counted kind s.archive key s.shown.items kept.there kept.ascending x.held held
     ∙ ap (λ (v : Shelved). rows_in_files kind (file_facts v.archive.profile kind key) (files v))
     c.self.view_is
 
@@ -96,7 +96,7 @@ returns-clause-rows c =
     let key = c.args.key.now in
     c.searched.ensures.rows
     ∙ ap (flat_map (searched_at true kind s.archive key)) c.files.ensures
-    ∙ facts_searched kind s.archive key s.shown.files c.self.invariant.0.there
+    ∙ facts_searched kind s.archive key s.shown.items c.self.invariant.0.there
     ∙ ap (λ (v : Shelved). facts_named v.archive.profile kind key (files v)) c.self.view_is
 
 pub returns-clause-new : goal.returns-clause-new
@@ -106,7 +106,7 @@ returns-clause-new c =
     let key = c.args.key.now in
     c.searched.ensures.new
     ∙ ap (flat_map (searched_at false kind s.archive key)) c.files.ensures
-    ∙ new_searched kind s.archive key s.shown.files c.self.invariant.0.there
+    ∙ new_searched kind s.archive key s.shown.items c.self.invariant.0.there
     ∙ ap (λ (v : Shelved). unlike_in_files kind (file_facts v.archive.profile kind key) (files v))
     c.self.view_is
 
@@ -117,6 +117,6 @@ returns-clause-counted c =
     let key = c.args.key.now in
     c.searched.ensures.counted
     ∙ ap (sum_by (searched_count kind s.archive key)) c.files.ensures
-    ∙ counted_searched kind s.archive key s.shown.files c.self.invariant.0.there
+    ∙ counted_searched kind s.archive key s.shown.items c.self.invariant.0.there
     ∙ ap (λ (v : Shelved). rows_in_files kind (file_facts v.archive.profile kind key) (files v))
     c.self.view_is

@@ -2,13 +2,13 @@ use Rattle.std.proofs.Common.{rules, ◌≡◌, ◌≤◌, ◌<◌, ◌∙◌, �
 use Rattle.std.proofs.Common.{get_or, arith, ◌+◌, ◌*◌, vec_capacity}
 use Rattle.std.proofs.Math.Nat.{min-le_left, min-le_right}
 use Rattle.cb_scan.specs.Order.{in_order}
-use Rattle.cb_index.specs.Blocks.{joined}
+use Rattle.cb_index.specs.Blocks.{Listing, joined}
 use Rattle.cb_index.specs.declared.blocks.TheConstants.{HALF}
-use Rattle.cb_index.specs.Files.{AreApart, AreAscending, Listing, shown_name}
+use Rattle.cb_index.specs.Files.{AreApart, AreAscending, shown_name}
 use Rattle.cb_index.specs.declared.entry.Shown.{Shown}
 use Rattle.cb_index.proofs.InOrderLemmas.{length_put}
 use Rattle.cb_index.proofs.ListedLemmas.{none_more, put_last}
-use Rattle.cb_index.proofs.shown.ShownList.put_all.Goals as goal
+use Rattle.cb_index.proofs.shown.BlockList+Shown.put_all.Goals as goal
 
 only : (news : List Shown) (d : Shown) → 1 ≤ length news → length news < 2
     → news ≡ get_or news 0 d ∷ []
@@ -23,7 +23,7 @@ empty (s ∷ news) none = absurd (omega (arith, none))
 pub returns-then-is_empty-clause-files : goal.returns-then-is_empty-clause-files
 returns-then-is_empty-clause-files c =
     let a = c.args.archive.now in
-    let old = c.args.self.now.files in
+    let old = c.args.self.now.items in
     none_more a old c.requires.ascending
     ∙ ap (λ l. in_order (shown_name a) (old ++ l)) (sym (empty c.args.news.now (search rules)))
 
@@ -36,7 +36,7 @@ invariant_of-self-2 c =
     let size =
     ap length (c.try_put.ensures.put (search rules))
     ∙ length_put (shown_name a) (get_or c.args.news.now 0 none) held in
-    let room = subst (λ (l : Listing). length l.files + length c.args.news.now ≤ l.room)
+    let room = subst (λ (l : Listing Shown). length l.items + length c.args.news.now ≤ l.room)
     (sym c.self.view_is) c.requires.room in
     let low =
     min-le_left (vec_capacity c.self.inside.scratch) (HALF * c.self.inside.blocks.count) in
@@ -54,12 +54,12 @@ returns-clause-files c =
     let held = joined c.self.inside.blocks.used in
     let none : Shown = record { name = 0; version = 0 } in
     let one = only c.args.news.now none (search rules) (search rules) in
-    let up = subst (λ (l : Listing). AreAscending a l.files) (sym c.self.view_is)
+    let up = subst (λ (l : Listing Shown). AreAscending a l.items) (sym c.self.view_is)
     c.requires.ascending in
-    let apart = subst (λ (l : Listing). AreApart a (l.files ++ c.args.news.now))
+    let apart = subst (λ (l : Listing Shown). AreApart a (l.items ++ c.args.news.now))
     (sym c.self.view_is) c.requires.apart in
     c.try_put.ensures.put (search rules)
     ∙ put_last a held (get_or c.args.news.now 0 none) up
     (subst (λ l. AreApart a (held ++ l)) one apart)
     ∙ ap (λ l. in_order (shown_name a) (held ++ l)) (sym one)
-    ∙ ap (λ (l : Listing). in_order (shown_name a) (l.files ++ c.args.news.now)) c.self.view_is
+    ∙ ap (λ (l : Listing Shown). in_order (shown_name a) (l.items ++ c.args.news.now)) c.self.view_is

@@ -10,7 +10,7 @@ use Rattle.cb_index.specs.declared.entry.Shown.{Shown}
 use Rattle.cb_index.proofs.EntryLemmas.{sort_exact}
 use Rattle.cb_index.proofs.PutLemmas.{again_in_order, order_front, parts_same}
 use Rattle.cb_index.specs.Kinds.{keyer_of, lister_of}
-use Rattle.cb_index.proofs.index.Postings.put_each.Goals as goal
+use Rattle.cb_index.proofs.index.BlockList+Entry.put_each.Goals as goal
 
 -- the room is for all of them
 pub put_all-requires-clause-room : goal.put_all-requires-clause-room
@@ -23,8 +23,8 @@ put_all-requires-clause-room c =
     let one = get_or c.args.shown.now i none in
     let later = all_entries lister a (drop (suc i) c.args.shown.now) in
     let size =
-    parts_same key c.loop-one.self.entries (all_entries lister a (drop i c.args.shown.now))
-    c.args.self.now.entries (all_entries lister a c.args.shown.now) c.loop-one.invariant.same in
+    parts_same key c.loop-one.self.items (all_entries lister a (drop i c.args.shown.now))
+    c.args.self.now.items (all_entries lister a c.args.shown.now) c.loop-one.invariant.same in
     let next : length (all_entries lister a (drop i c.args.shown.now))
     ≡ length (entries_of lister a one ++ later) =
     ap (λ l. length (all_entries lister a l))
@@ -42,16 +42,16 @@ loop-one-preserved c =
     let none : Shown = record { name = 0; version = 0 } in
     let i = c.loop-one.one-index in
     let shown = c.args.shown.now in
-    let held = c.loop-one.self.entries in
+    let held = c.loop-one.self.items in
     let more = entries_of lister a (get_or shown i none) in
     let later = all_entries lister a (drop (suc i) shown) in
     let step : i + 1 ≡ suc i = omega arith in
     record {
       order =
-          again_in_order key (sort_exact keyer a) c.put_all.new.self.entries
+          again_in_order key (sort_exact keyer a) c.put_all.new.self.items
           (held ++ more) c.put_all.ensures.entries;
       same =
-          ap (λ n. in_order key (c.put_all.new.self.entries ++ all_entries lister a (drop n shown)))
+          ap (λ n. in_order key (c.put_all.new.self.items ++ all_entries lister a (drop n shown)))
           step
           ∙ ap (λ l. in_order key (l ++ later)) c.put_all.ensures.entries
           ∙ order_front key (sort_exact keyer a) held more later

@@ -1,12 +1,12 @@
 use Rattle.std.proofs.Common.{◌≡◌, ◌∙◌, ap, filter, subst, sym}
 use Rattle.cb_scan.specs.Order.{in_order}
-use Rattle.cb_index.specs.Blocks.{before, joined}
+use Rattle.cb_index.specs.Blocks.{Listing, before, joined}
 use Rattle.cb_index.specs.Entries.{has_key, sort_key}
 use Rattle.cb_index.specs.declared.order.Side.TheVariants.{After, Before}
-use Rattle.cb_index.specs.Held.{Held}
+use Rattle.cb_index.specs.declared.entry.Entry.{Entry}
 use Rattle.cb_index.proofs.RangeLemmas.{ahead_parts, key_between}
 use Rattle.cb_index.specs.Kinds.{keyer_of}
-use Rattle.cb_index.proofs.index.Postings.with_key.Goals as goal
+use Rattle.cb_index.proofs.index.BlockList+Entry.with_key.Goals as goal
 
 -- what is held is in order
 pub place_of-from-requires-clause-parted : goal.place_of-from-requires-clause-parted
@@ -15,7 +15,7 @@ place_of-from-requires-clause-parted c =
     let a = c.args.archive.now in
     ahead_parts keyer a (Before c.prefix-prefix.result c.args.key) (joined c.used-blocks.result.now)
     (subst (λ es. es ≡ in_order (sort_key keyer a) es)
-    (sym (ap joined c.used-blocks.ensures.value ∙ ap (λ (h : Held). h.entries) c.self.view_is))
+    (sym (ap joined c.used-blocks.ensures.value ∙ ap (λ (h : Listing Entry). h.items) c.self.view_is))
     c.requires)
 
 pub place_of-to-requires-clause-parted : goal.place_of-to-requires-clause-parted
@@ -24,7 +24,7 @@ place_of-to-requires-clause-parted c =
     let a = c.args.archive.now in
     ahead_parts keyer a (After c.prefix-prefix.result c.args.key) (joined c.used-blocks.result.now)
     (subst (λ es. es ≡ in_order (sort_key keyer a) es)
-    (sym (ap joined c.used-blocks.ensures.value ∙ ap (λ (h : Held). h.entries) c.self.view_is))
+    (sym (ap joined c.used-blocks.ensures.value ∙ ap (λ (h : Listing Entry). h.items) c.self.view_is))
     c.requires)
 
 -- what lies between is what has the key
@@ -41,4 +41,4 @@ returns c =
     c.place_of-from.ensures.ahead c.place_of-from.ensures.behind c.place_of-to.ensures.ahead
     c.place_of-to.ensures.behind
     ∙ (λ i. filter (has_key keyer a (c.prefix-prefix.ensures i) key)
-    ((ap joined c.used-blocks.ensures.value ∙ ap (λ (h : Held). h.entries) c.self.view_is) i))
+    ((ap joined c.used-blocks.ensures.value ∙ ap (λ (h : Listing Entry). h.items) c.self.view_is) i))

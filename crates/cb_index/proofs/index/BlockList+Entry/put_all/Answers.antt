@@ -1,0 +1,42 @@
+use Rattle.std.proofs.Common.{◌≡◌, ◌∙◌, ◌≤◌, ◌*◌, ◌+◌, ◌++◌, sym, ap, subst, length, vec_capacity}
+use Rattle.std.proofs.Common.{arith}
+use Rattle.std.proofs.Math.Nat.{min-le_left, min-le_right}
+use Rattle.std.proofs.lemmas.List.{length-map}
+use Rattle.cb_scan.specs.Order.{in_order}
+use Rattle.cb_index.specs.Blocks.{Listing, joined}
+use Rattle.cb_index.specs.Entries.{sort_key}
+use Rattle.cb_index.specs.Held.{entries_of, entry_of, listed_of}
+use Rattle.cb_index.specs.Kinds.{keyer_of, lister_of}
+use Rattle.cb_index.specs.declared.blocks.TheConstants.{HALF}
+use Rattle.cb_index.specs.declared.entry.Entry.{Entry}
+use Rattle.cb_index.proofs.index.BlockList+Entry.put_all.Goals as goal
+
+-- the room is for the old entries and the new ones
+pub put_rest-requires-clause-fits : goal.put_rest-requires-clause-fits
+put_rest-requires-clause-fits c =
+    let a = c.args.archive.now in
+    let items = listed_of (lister_of c.args.kind) a c.args.shown.version in
+    let size : length c.append.new.entries.items ≡ length items =
+    ap length (c.append.ensures.entries
+    ∙ ap (λ l. l ++ entries_of (lister_of c.args.kind) a c.args.shown) c.truncate.ensures.items)
+    ∙ length-map items (entry_of c.args.shown) in
+    let fits =
+    subst (λ (h : Listing Entry). length h.items + length items ≤ h.room)
+    (sym c.self.view_is) c.requires.room in
+    let low =
+    min-le_left (vec_capacity c.self.inside.scratch) (HALF * c.self.inside.blocks.count) in
+    let high =
+    min-le_right (vec_capacity c.self.inside.scratch) (HALF * c.self.inside.blocks.count) in (
+      omega (arith, size, fits, low, c.truncate.ensures.capacity, c.append.ensures.room),
+      omega (arith, size, fits, high),
+    )
+
+pub returns-clause-entries : goal.returns-clause-entries
+returns-clause-entries c =
+    let a = c.args.archive.now in
+    let key = sort_key (keyer_of c.args.kind) a in
+    let more = entries_of (lister_of c.args.kind) a c.args.shown in
+    c.put_rest.ensures.entries
+    ∙ ap (λ l. in_order key (joined c.self.inside.blocks.used ++ l))
+    (c.append.ensures.entries ∙ ap (λ l. l ++ more) c.truncate.ensures.items)
+    ∙ ap (λ (h : Listing Entry). in_order key (h.items ++ more)) c.self.view_is
