@@ -3,7 +3,8 @@ ghost use Rattle.std.specs.Prelude.{◌≡◌, ◌<◌, ◌≤◌, ◌+◌, ◌*
 ghost use Rattle.std.specs.Prelude.{false, length, slice_index_or, suc, take, true, vec_capacity};
 ghost use Rattle.std.specs.List.{AllByRecursion, insert};
 ghost use Rattle.std.specs.List.Sorted.{IsPartitionPoint, IsPartitionedBy};
-ghost use Rattle.cb_index.specs.Blocks.{AreParted, IsFilled, IsPlace, before, head_is, joined};
+ghost use Rattle.cb_index.specs.Blocks.{AreParted, IsFilled, IsPlace, IsPlaceOf, before};
+ghost use Rattle.cb_index.specs.Blocks.{head_is, joined};
 ghost use Rattle.cb_index.specs.declared.blocks.TheConstants.{HALF, SIZE};
 
 use crate::archive::OutOfMemory;
@@ -186,12 +187,7 @@ fn count_begun<T: Copy, B: Bound<T>>(bound: &B, blocks: &[Block<T>]) -> usize
 pub(crate) fn place_of<T: Copy, B: Bound<T>>(bound: &B, blocks: &[Block<T>]) -> Place
     requires parted { AreParted (B.is_ahead bound.now) (joined blocks.now) }
     requires filled { AllByRecursion IsFilled blocks.now }
-    ensures place { IsPlace blocks.now result.block result.at }
-    ensures ahead { AllByRecursion (λ e. B.is_ahead bound.now e ≡ true)
-        (take (before blocks.now result.block result.at) (joined blocks.now)) }
-    ensures behind { AllByRecursion (λ e. B.is_ahead bound.now e ≡ false)
-        (drop (before blocks.now result.block result.at) (joined blocks.now)) }
-    ensures start { result.at ≡ 0 → result.block ≡ 0 }
+    ensures { IsPlaceOf (B.is_ahead bound.now) blocks.now result.block result.at }
 {
     let begun = count_begun(bound, blocks);
     if begun == 0 {

@@ -111,9 +111,8 @@ fn compare_shown(archive: &Archive, a: Shown, b: Shown) -> Ordering
     ensures { result ≡ slice_cmp nat_cmp (shown_key archive.now a) (shown_key archive.now b) }
 {
     match compare_by_words(archive.name(a.name), archive.name(b.name)) {
-        Ordering::Less => Ordering::Less,
-        Ordering::Greater => Ordering::Greater,
         Ordering::Equal => numbers(a).cmp(&numbers(b)),
+        settled => settled,
     }
 }
 
@@ -244,9 +243,9 @@ fn note_block(block: usize, shown: &[Shown], archive: &mut Archive)
 /// Takes what is shown under the number of a name away. It is looked for by its file name.
 fn take(archive: &Archive, name: u32, blocks: &mut Blocks<Shown>) -> Option<Shown>
     requires { AreAscending archive.now (joined blocks.old.used) }
-    ensures value { result ≡ shown_under name (joined blocks.old.used) }
-    ensures files { joined blocks.new.used
-        ≡ filter (λ (s : Shown). not (nat_eq s.name name)) (joined blocks.old.used) }
+    ensures taken { (result ≡ shown_under name (joined blocks.old.used))
+        × (joined blocks.new.used
+        ≡ filter (λ (s : Shown). not (nat_eq s.name name)) (joined blocks.old.used)) }
     ensures count { blocks.new.count ≡ blocks.old.count }
 {
     let bound = AfterName {

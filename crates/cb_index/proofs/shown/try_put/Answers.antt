@@ -1,6 +1,5 @@
-use Rattle.std.proofs.Common.{◌≡◌, ◌∙◌, true, false, sym, subst, take, drop}
-use Rattle.std.specs.List.{AllByRecursion}
-use Rattle.cb_index.specs.Blocks.{before, joined}
+use Rattle.std.proofs.Common.{◌∙◌, sym, subst}
+use Rattle.cb_index.specs.Blocks.{IsPlaceOf, before, joined}
 use Rattle.cb_index.specs.Files.{AreAscending}
 use Rattle.cb_index.specs.steps.Bounds.{is_below}
 use Rattle.cb_index.proofs.ShownListLemmas.{below_parts, put_between}
@@ -18,14 +17,9 @@ returns-clause-put c = λ is.
     let k = c.place_of-place.result.block in
     let j = c.place_of-place.result.at in
     let held = c.args.blocks.now.used in
+    let place =
+    subst (λ n. IsPlaceOf (is_below a n) held k j) c.name.ensures
+    (subst (λ bs. IsPlaceOf (is_below a c.name.result.now) bs k j) c.used.ensures.value
+    c.place_of-place.ensures) in
     c.try_insert.ensures.put is
-    ∙ put_between a c.args.one (before held k j) (joined held)
-    (subst (λ n. AllByRecursion (λ s. is_below a n s ≡ true) (take (before held k j) (joined held)))
-    c.name.ensures
-    (subst (λ bs. AllByRecursion (λ s. is_below a c.name.result.now s ≡ true)
-    (take (before bs k j) (joined bs))) c.used.ensures.value c.place_of-place.ensures.ahead))
-    (subst
-    (λ n. AllByRecursion (λ s. is_below a n s ≡ false) (drop (before held k j) (joined held)))
-    c.name.ensures
-    (subst (λ bs. AllByRecursion (λ s. is_below a c.name.result.now s ≡ false)
-    (drop (before bs k j) (joined bs))) c.used.ensures.value c.place_of-place.ensures.behind))
+    ∙ put_between a c.args.one (before held k j) (joined held) place.ahead place.behind

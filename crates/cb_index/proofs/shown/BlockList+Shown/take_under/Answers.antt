@@ -8,7 +8,7 @@ pub invariant_of-self : goal.invariant_of-self
 invariant_of-self c =
     let held = joined c.self.inside.blocks.used in
     let p = stays c.args.archive.now c.args.name in
-    let size = ap length c.take.ensures.files ∙ length-filter p held in
+    let size = ap length c.take.ensures.taken.1 ∙ length-filter p held in
     let fewer = count_by-le-length p held in
     let count = c.take.ensures.count in
     let fits = c.self.invariant in
