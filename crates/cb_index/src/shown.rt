@@ -206,6 +206,8 @@ fn try_put(archive: &Archive, one: Shown, blocks: &mut Blocks<Shown>) -> bool
     requires { AreAscending archive.now (joined blocks.old.used) }
     ensures put { result ≡ true → joined blocks.new.used
         ≡ put (shown_name archive.now) one (joined blocks.old.used) }
+    ensures len { result ≡ true
+        → length (joined blocks.new.used) ≡ length (joined blocks.old.used) + 1 }
     ensures stays { result ≡ false → blocks.new.used ≡ blocks.old.used }
     ensures count { blocks.new.count ≡ blocks.old.count }
 {

@@ -11,26 +11,6 @@ use Rattle.cb_index.specs.declared.blocks.TheConstants.{HALF}
 use Rattle.cb_index.specs.declared.entry.Entry.{Entry}
 use Rattle.cb_index.proofs.index.BlockList+Entry.put_all.Goals as goal
 
--- the room is for the old entries and the new ones
-pub put_rest-requires-clause-fits : goal.put_rest-requires-clause-fits
-put_rest-requires-clause-fits c =
-    let a = c.args.archive.now in
-    let items = listed_of (lister_of c.args.kind) a c.args.shown.version in
-    let size : length c.append.new.entries.items ≡ length items =
-    ap length (c.append.ensures.entries
-    ∙ ap (λ l. l ++ entries_of (lister_of c.args.kind) a c.args.shown) c.truncate.ensures.items)
-    ∙ length-map items (entry_of c.args.shown) in
-    let fits =
-    subst (λ (h : Listing Entry). length h.items + length items ≤ h.room)
-    (sym c.self.view_is) c.requires.room in
-    let low =
-    min-le_left (vec_capacity c.self.inside.scratch) (HALF * c.self.inside.blocks.count) in
-    let high =
-    min-le_right (vec_capacity c.self.inside.scratch) (HALF * c.self.inside.blocks.count) in (
-      omega (arith, size, fits, low, c.truncate.ensures.capacity, c.append.ensures.room),
-      omega (arith, size, fits, high),
-    )
-
 pub returns-clause-entries : goal.returns-clause-entries
 returns-clause-entries c =
     let a = c.args.archive.now in

@@ -5,6 +5,7 @@ use Rattle.cb_index.specs.Blocks.{before, joined}
 use Rattle.cb_index.proofs.BlockLemmas.{get_or_any}
 use Rattle.cb_index.proofs.RunLemmas.{across_between, between_fits, inside_between, turned_between}
 use Rattle.cb_index.proofs.run.Run.between.Goals as goal
+use Rattle.cb_index.proofs.run.Run.between.Goals.{After-whole-1}
 
 -- it would end before it begins
 pub returns-then-to-from : goal.returns-then-to-from
@@ -32,32 +33,12 @@ returns-then-from-to t c =
     ∙ inside_between bs k f t low c.requires.to.1
     ∙ ap (λ n. drop (before bs n f) (take (before bs k t) (joined bs))) (sym c.if-from-to.true)
 
--- no more entries than all
-pub parts-requires-2 : goal.parts-requires-2
-parts-requires-2 t c =
-    let bs = c.args.blocks.now in
-    let k = c.args.from.block in
-    let m = c.args.to.block in
-    let f = c.args.from.at in
-    let t = c.args.to.at in
-    let low : m < length bs = search rules in
-    let first : k < length bs = search rules in
-    let less : k < m = omega (arith, c.if-to-from.false, c.if-from-to.false) in
-    let start : c.items-2.result.now ≡ get_or bs k [] =
-    c.items-2.ensures.value ∙ c.index-blocks-from.is
-    ∙ get_or_any bs k c.index-blocks-from.result [] first in
-    let end : c.items.result.now ≡ get_or bs m [] =
-    c.items.ensures.value ∙ c.index-blocks-to.is
-    ∙ get_or_any bs m c.index-blocks-to.result [] low in
-    between_fits (before bs k f) (before bs m t) (joined bs) _ _
-    ((λ i. (c.split_at-2.ensures.back ∙ ap (drop f) start) i
-    ++ (joined ((c.split_at-4.ensures.back ∙ ap (drop (k + 1)) c.split_at-3.ensures.front) i)
-    ++ (c.split_at.ensures.front ∙ ap (take t) end) i))
-    ∙ across_between bs k f m t less low c.requires.from.1 c.requires.to.1) c.requires.fits
-
 -- in two blocks
-pub returns : goal.returns
-returns t c =
+across : (t : _) (c : After-whole-1 t)
+    → c.split_at-2.result.1.now ++ (joined c.split_at-4.result.1.now ++ c.split_at.result.0.now)
+    ≡ drop (before c.args.blocks.now c.args.from.block c.args.from.at)
+    (take (before c.args.blocks.now c.args.to.block c.args.to.at) (joined c.args.blocks.now))
+across t c =
     let bs = c.args.blocks.now in
     let k = c.args.from.block in
     let m = c.args.to.block in
@@ -72,8 +53,17 @@ returns t c =
     let end : c.items.result.now ≡ get_or bs m [] =
     c.items.ensures.value ∙ c.index-blocks-to.is
     ∙ get_or_any bs m c.index-blocks-to.result [] low in
-    c.parts-2.ensures
-    ∙ (λ i. (c.split_at-2.ensures.back ∙ ap (drop f) start) i
+    (λ i. (c.split_at-2.ensures.back ∙ ap (drop f) start) i
     ++ (joined ((c.split_at-4.ensures.back ∙ ap (drop (k + 1)) c.split_at-3.ensures.front) i)
     ++ (c.split_at.ensures.front ∙ ap (take t) end) i))
     ∙ across_between bs k f m t less low c.requires.from.1 c.requires.to.1
+
+-- no more elements than all
+pub parts-requires-2 : goal.parts-requires-2
+parts-requires-2 t c =
+    between_fits (before c.args.blocks.now c.args.from.block c.args.from.at)
+    (before c.args.blocks.now c.args.to.block c.args.to.at) (joined c.args.blocks.now) _ _
+    (across t c) c.requires.fits
+
+pub returns : goal.returns
+returns t c = c.parts-2.ensures ∙ across t c.before

@@ -28,26 +28,6 @@ returns-then-is_empty-clause-files c =
     ∙ ap (λ l. in_order (shown_name a) (old ++ l)) (sym (empty c.args.news.now (search rules)))
 
 -- one is put at its place
-pub invariant_of-self-2 : goal.invariant_of-self-2
-invariant_of-self-2 c =
-    let a = c.args.archive.now in
-    let held = joined c.self.inside.blocks.used in
-    let none : Shown = record { name = 0; version = 0 } in
-    let size =
-    ap length (c.try_put.ensures.put (search rules))
-    ∙ length_put (shown_name a) (get_or c.args.news.now 0 none) held in
-    let room = subst (λ (l : Listing Shown). length l.items + length c.args.news.now ≤ l.room)
-    (sym c.self.view_is) c.requires.room in
-    let low =
-    min-le_left (vec_capacity c.self.inside.scratch) (HALF * c.self.inside.blocks.count) in
-    let high =
-    min-le_right (vec_capacity c.self.inside.scratch) (HALF * c.self.inside.blocks.count) in
-    let count = c.try_put.ensures.count in
-    let some : 1 ≤ length c.args.news.now = search rules in (
-      omega (arith, size, room, low, some),
-      omega (arith, size, room, high, some, count),
-    )
-
 pub returns-clause-files : goal.returns-clause-files
 returns-clause-files c =
     let a = c.args.archive.now in
