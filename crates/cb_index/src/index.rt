@@ -233,20 +233,8 @@ impl BlockList<Entry> {
             for one in shown {
                 self.put_all(kind, archive, *one);
             }
-        } else {
-            self.sort_each(kind, archive, shown);
+            return;
         }
-    }
-
-    /// Puts the entries of many versions among the others by one sort.
-    fn sort_each(&mut self, kind: IndexKind, archive: &Archive, shown: &[Shown])
-        requires { length self.old.items
-            + length (all_entries (lister_of kind) archive.now shown.now)
-            ≤ self.old.room }
-        ensures entries { self.new.items ≡ in_order (sort_key (keyer_of kind) archive.now)
-            (self.old.items ++ all_entries (lister_of kind) archive.now shown.now) }
-        ensures room { self.old.room ≤ self.new.room }
-    {
         self.scratch.truncate(0);
         self.blocks.lift(&mut self.scratch);
         append_each(kind, archive, shown, &mut self.scratch);

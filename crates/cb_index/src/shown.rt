@@ -321,17 +321,6 @@ impl BlockList<Shown> {
         {
             return;
         }
-        self.sort_with(archive, news);
-    }
-
-    /// Puts versions among the others by one sort.
-    fn sort_with(&mut self, archive: &Archive, news: &[Shown])
-        requires apart { AreApart archive.now (self.old.items ++ news.now) }
-        requires room { length self.old.items + length news.now ≤ self.old.room }
-        ensures files { self.new.items
-            ≡ in_order (shown_name archive.now) (self.old.items ++ news.now) }
-        ensures room { self.old.room ≤ self.new.room }
-    {
         self.scratch.truncate(0);
         self.blocks.lift(&mut self.scratch);
         if self.scratch.extend_from_slice(news).is_err() {
