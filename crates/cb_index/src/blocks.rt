@@ -357,20 +357,6 @@ impl<T: Copy + Drop> Blocks<T> {
         true
     }
 
-    /// Puts an element into a block that is not full.
-    fn put_in(&mut self, place: Place, one: T)
-        requires block { place.block < length self.old.used }
-        requires place { IsPlace self.old.used place.block place.at }
-        requires room { length (slice_index_or self.old.used place.block []) < SIZE }
-        ensures put { joined self.new.used
-            ≡ take (before self.old.used place.block place.at) (joined self.old.used)
-            ++ one ∷ drop (before self.old.used place.block place.at) (joined self.old.used) }
-        ensures count { self.new.count ≡ self.old.count }
-    {
-        let block = &mut self.used[place.block];
-        block.insert(place.at, one);
-    }
-
     /// Puts an element at a place; not where a block is wanted and none is left.
     pub(crate) fn try_insert(&mut self, place: Place, one: T) -> bool
         requires { IsPlace self.old.used place.block place.at }
@@ -386,7 +372,8 @@ impl<T: Copy + Drop> Blocks<T> {
         if self.used[place.block].is_full() {
             return self.put_split(place, one);
         }
-        self.put_in(place, one);
+        let block = &mut self.used[place.block];
+        block.insert(place.at, one);
         true
     }
 

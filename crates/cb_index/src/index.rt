@@ -139,21 +139,6 @@ fn take_one(kind: IndexKind, archive: &Archive, one: Entry, blocks: &mut Blocks<
     });
 }
 
-/// Sorts all entries and others, and deals them out into blocks.
-fn sort_in(kind: IndexKind, archive: &Archive, more: &mut Vec<Entry>, blocks: &mut Blocks<Entry>)
-    requires { Fit (length more.old.items + length (joined blocks.old.used))
-        (vec_capacity more.old) blocks.old.count }
-    ensures entries { joined blocks.new.used ≡ in_order (sort_key (keyer_of kind) archive.now)
-        (joined blocks.old.used ++ more.old.items) }
-    ensures fits { Fit (length (joined blocks.new.used)) (vec_capacity more.new) blocks.new.count }
-    ensures room { vec_capacity more.old ≤ vec_capacity more.new }
-    ensures count { blocks.new.count ≡ blocks.old.count }
-{
-    blocks.lift(more);
-    sort(kind, archive, more);
-    blocks.deal(more.as_slice());
-}
-
 /// Puts entries between the others, one after another; all together from where no block is left.
 fn put_rest(kind: IndexKind, archive: &Archive, news: &mut Vec<Entry>, blocks: &mut Blocks<Entry>)
     requires order { joined blocks.old.used
@@ -169,7 +154,9 @@ fn put_rest(kind: IndexKind, archive: &Archive, news: &mut Vec<Entry>, blocks: &
     while let Some(one) = news.pop() {
         if !try_put(kind, archive, one, blocks) {
             news.push_reserved(one);
-            sort_in(kind, archive, news, blocks);
+            blocks.lift(news);
+            sort(kind, archive, news);
+            blocks.deal(news.as_slice());
             return;
         }
     }

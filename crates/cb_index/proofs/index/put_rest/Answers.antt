@@ -5,7 +5,8 @@ use Rattle.cb_scan.specs.Order.{in_order}
 use Rattle.cb_index.specs.Blocks.{joined}
 use Rattle.cb_index.specs.Entries.{sort_key}
 use Rattle.cb_index.proofs.EntryLemmas.{sort_exact}
-use Rattle.cb_index.proofs.PutLemmas.{again_in_order, parts_length, put_next}
+use Rattle.cb_index.proofs.PutLemmas.{again_in_order, order_turned, parts_length}
+use Rattle.cb_index.proofs.PutLemmas.{put_next}
 use Rattle.cb_index.specs.Kinds.{keyer_of}
 use Rattle.cb_index.proofs.index.put_rest.Goals as goal
 
@@ -41,11 +42,23 @@ loop-one-preserved c =
           c.loop-one.invariant.room;
     }
 
-pub sort_in-requires : goal.sort_in-requires
-sort_in-requires c =
+pub lift-requires : goal.lift-requires
+lift-requires c =
     let news : length c.push_reserved.new.self.items ≡ length c.loop-one.news.items = search rules in
     let held = ap (λ bs. length (joined bs)) (c.try_put.ensures.stays (search rules)) in
-    let fits = c.loop-one.invariant.fits in (
-      omega (arith, news, held, fits.0, c.push_reserved.ensures.capacity, c.pop.ensures.capacity),
-      omega (arith, news, held, fits.1, c.try_put.ensures.count),
-    )
+    let fits = c.loop-one.invariant.fits in
+    omega (arith, news, held, fits.0, c.push_reserved.ensures.capacity, c.pop.ensures.capacity)
+
+-- they are in order together with what was held
+pub returns-then-not-try_put-clause-entries : goal.returns-then-not-try_put-clause-entries
+returns-then-not-try_put-clause-entries c =
+    let keyer = keyer_of c.args.kind in
+    let a = c.args.archive.now in
+    let key = sort_key keyer a in
+    let news : c.push_reserved.new.self.items ≡ c.loop-one.news.items = search rules in
+    let held = ap joined (c.try_put.ensures.stays (search rules)) in
+    c.deal.ensures.items ∙ c.as_slice.ensures.value ∙ c.sort.ensures.items
+    ∙ ap (in_order key) c.lift.ensures.items
+    ∙ order_turned key (sort_exact keyer a) c.push_reserved.new.self.items
+    (joined c.try_put.new.blocks.used)
+    ∙ (λ i. in_order key (held i ++ news i)) ∙ c.loop-one.invariant.same
