@@ -51,25 +51,6 @@ fn goes_first(kind: IndexKind, archive: &Archive, a: Entry, b: Entry) -> bool
     compare(kind, archive, a, b) != Ordering::Greater
 }
 
-/// Whether entries are in order.
-fn ascend(kind: IndexKind, archive: &Archive, entries: Run<'_, Entry>) -> bool
-    ensures { result ≡ true → run_items entries.entry
-        ≡ in_order (sort_key (keyer_of kind) archive.now) (run_items entries.entry) }
-{
-    let (mut last, mut left) = match entries.split_first() {
-        Some((entry, rest)) => (*entry, rest),
-        None => return true,
-    };
-    while let Some((entry, rest)) = left.split_first() {
-        if !goes_first(kind, archive, last, *entry) {
-            return false;
-        }
-        last = *entry;
-        left = rest;
-    }
-    true
-}
-
 /// Whether the entries of versions are few beside the `held` ones.
 fn are_few(kind: IndexKind, archive: &Archive, shown: &[Shown], held: usize) -> bool {
     let mut left = held / FEW;
@@ -186,7 +167,18 @@ impl BlockList<Entry> {
         ensures { result ≡ true
             → self.now.items ≡ in_order (sort_key (keyer_of kind) archive.now) self.now.items }
     {
-        ascend(kind, archive, self.items())
+        let (mut last, mut left) = match self.items().split_first() {
+            Some((entry, rest)) => (*entry, rest),
+            None => return true,
+        };
+        while let Some((entry, rest)) = left.split_first() {
+            if !goes_first(kind, archive, last, *entry) {
+                return false;
+            }
+            last = *entry;
+            left = rest;
+        }
+        true
     }
 
     /// Puts the entries of a version under a name between the others, in the room that is there. It

@@ -7,11 +7,11 @@ use Rattle.cb_index.proofs.EntryLemmas.{sort_exact}
 use Rattle.cb_index.proofs.PutLemmas.{none_in_order}
 use Rattle.cb_index.proofs.SortedLemmas.{sorted_same}
 use Rattle.cb_index.specs.Kinds.{keyer_of}
-use Rattle.cb_index.proofs.index.ascend.Goals as goal
+use Rattle.cb_index.proofs.index.BlockList+Entry.is_in_order.Goals as goal
 
 pub returns-in-None : goal.returns-in-None
 returns-in-None c = λ is.
-    none_in_order (sort_key (keyer_of c.args.kind) c.args.archive.now) (run_items c.args.entries)
+    none_in_order (sort_key (keyer_of c.args.kind) c.args.archive.now) c.args.self.now.items
     (search rules)
 
 -- the last one goes before the next, and so before all after it
@@ -32,5 +32,5 @@ returns c = λ is.
     let a = c.args.archive.now in
     let key = sort_key keyer a in
     let none : run_items c.loop-entry.left ≡ [] = search rules in
-    sym (sorted_same key (sort_exact keyer a) (run_items c.args.entries)
+    sym (sorted_same key (sort_exact keyer a) c.args.self.now.items
     (c.loop-entry.invariant (subst (λ l. Sorted key (c.loop-entry.last ∷ l)) (sym none) (tt, tt))))
