@@ -1,7 +1,7 @@
 //! The five indexes: of each the entries in the order of its kind, and the versions that are pending
 //! until a question comes.
-ghost use Rattle.std.specs.Prelude.{◌≡◌, ◌≤◌, ◌+◌, ◌*◌, ◌++◌, ◌∷◌, [], List, OnOk, Some, false};
-ghost use Rattle.std.specs.Prelude.{filter, length, not, true, vec_capacity};
+ghost use Rattle.std.specs.Prelude.{◌≡◌, ◌≤◌, ◌+◌, ◌++◌, ◌∷◌, [], List, OnOk, Some, false};
+ghost use Rattle.std.specs.Prelude.{filter, length, true, vec_capacity};
 ghost use Rattle.std.specs.List.{AllByRecursion};
 ghost use Rattle.std.specs.List.Sorted.{IsStrictlyIncreasing};
 ghost use Rattle.cb_scan.specs.Order.{goes_first, in_order};
@@ -10,7 +10,7 @@ ghost use Rattle.cb_index.specs.Entries.{has_key, has_key_from, sort_key};
 ghost use Rattle.cb_index.specs.Files.{shown_under};
 ghost use Rattle.cb_index.specs.Held.{Indexed, all_entries, entries_of, listed_of};
 ghost use Rattle.cb_index.specs.Kinds.{keyer_of, lister_of, prefix_of};
-ghost use Rattle.cb_index.specs.Names.{is_among, names_of};
+ghost use Rattle.cb_index.specs.Names.{names_of};
 ghost use Rattle.cb_index.specs.Shelved.{HasRoom, IsIndex, room_for};
 ghost use Rattle.cb_index.specs.declared.entry.Entry.{Entry};
 ghost use Rattle.cb_index.specs.declared.entry.Shown.{Shown};

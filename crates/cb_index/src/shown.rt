@@ -1,8 +1,7 @@
 //! The list of what is shown, by file name; what is asked of lists of versions under file names,
 //! and of numbers of names.
-ghost use Rattle.std.specs.Prelude.{◌≡◌, ◌<◌, ◌≤◌, ◌+◌, ◌*◌, ◌&&◌, ◌++◌, ◌∷◌, [], ⊤, MatchOption};
-ghost use Rattle.std.specs.Prelude.{OnOk, false, filter, length, nat_eq, nat_lt, not, take, true};
-ghost use Rattle.std.specs.Prelude.{vec_capacity};
+ghost use Rattle.std.specs.Prelude.{◌≡◌, ◌<◌, ◌≤◌, ◌+◌, ◌&&◌, ◌++◌, ◌∷◌, [], ⊤, MatchOption};
+ghost use Rattle.std.specs.Prelude.{false, filter, length, nat_eq, nat_lt, not, take, true};
 ghost use Rattle.std.specs.Cmp.Lexicographic.{slice_cmp};
 ghost use Rattle.std.specs.List.{AllByRecursion, list_all, list_any, prefix_len};
 ghost use Rattle.std.specs.List.Sorted.{IsStrictlyIncreasing};

@@ -1,12 +1,9 @@
 use Rattle.std.proofs.Common.{rules, ◌≡◌, ◌≤◌, ◌<◌, ◌∙◌, ◌++◌, ◌∷◌, [], List, ap, sym, subst, refl, length}
-use Rattle.std.proofs.Common.{get_or, arith, ◌+◌, ◌*◌, vec_capacity}
-use Rattle.std.proofs.Math.Nat.{min-le_left, min-le_right}
+use Rattle.std.proofs.Common.{get_or, arith}
 use Rattle.cb_scan.specs.Order.{in_order}
 use Rattle.cb_index.specs.Blocks.{Listing, joined}
-use Rattle.cb_index.specs.declared.blocks.TheConstants.{HALF}
 use Rattle.cb_index.specs.Files.{AreApart, AreAscending, shown_name}
 use Rattle.cb_index.specs.declared.entry.Shown.{Shown}
-use Rattle.cb_index.proofs.InOrderLemmas.{length_put}
 use Rattle.cb_index.proofs.ListedLemmas.{none_more, put_last}
 use Rattle.cb_index.proofs.shown.BlockList+Shown.put_all.Goals as goal
 
