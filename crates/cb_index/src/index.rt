@@ -21,12 +21,10 @@ ghost use Rattle.cb_index.specs.steps.Runs.{run_items};
 ghost use Rattle.cb_index.specs.steps.ToCome.{is_asked};
 
 use crate::archive::{Archive, OutOfMemory};
-use crate::blocks::{Blocks, Place, place_of};
+use crate::blocks::{BlockList, Blocks, Place, Run, place_of, take_named};
 use crate::entry::{Asked, Entry, FactKind, IndexKind, Shown};
 use crate::links::Mention;
-use crate::list::{BlockList, take_named};
 use crate::order::{EntryBound, Side, append, compare, count, prefix};
-use crate::run::Run;
 use crate::shelf::Room;
 use crate::shown::place_of_name;
 use crate::sort::sort;

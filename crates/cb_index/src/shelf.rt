@@ -22,13 +22,13 @@ ghost use Rattle.cb_index.specs.steps.ShownIn.{shown_in};
 ghost use Rattle.cb_index.specs.steps.ToCome.{asked_tags};
 
 use crate::archive::{Archive, OutOfMemory, Version, read_bytes};
+use crate::blocks::BlockList;
 use crate::entry::{Asked, FactKind, IndexKind, Shown};
 use crate::facts::{FactRows, are_few};
+use crate::files::ShownFiles;
 use crate::includes::Entries;
 use crate::index::{Index, put_in_each, reserve_each, take_from_each, take_names_from_each};
 use crate::links::Mention;
-use crate::list::BlockList;
-use crate::run::ShownFiles;
 use crate::shown::{are_there, ascend, has_any_name};
 use crate::tags::{DefSearch, Defs, TagRows, def_kind};
 use crate::totals::{Totals, totals_of};

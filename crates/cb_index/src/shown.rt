@@ -19,10 +19,9 @@ ghost use Rattle.cb_index.specs.steps.Compact.{IsAmong};
 ghost use Rattle.cb_index.specs.steps.ShownIn.{shown_in};
 
 use crate::archive::{Archive, compare_by_words};
-use crate::blocks::{Block, Blocks, Bound, Place, place_of};
+use crate::blocks::{Block, BlockList, Blocks, Bound, Place, place_of};
 use crate::entry::Shown;
-use crate::list::BlockList;
-use crate::run::ShownFiles;
+use crate::files::ShownFiles;
 use std::cmp::Ordering;
 
 // ---- numbers of names
@@ -36,29 +35,6 @@ pub fn are_rising(files: &[Shown]) -> bool
             ensures { result ≡ nat_lt a.now.name b.now.name }
         { a.name < b.name },
     )
-}
-
-/// Files by the numbers of their names, each below the next.
-#[derive(Clone, Copy)]
-pub(crate) struct Names<'a> {
-    pub(crate) files: &'a [Shown],
-    ghost rising: { IsStrictlyIncreasing (names_of files.now) },
-}
-
-impl<'a> Names<'a> {
-    /// Whether a number is that of one of the names, by binary search.
-    pub(crate) fn has(&self, number: u32) -> bool
-        ensures { result ≡ is_among (names_of self.now.files.now) number }
-    {
-        let files = self.files;
-        files
-            .binary_search_by(
-                |s: &Shown| -> Ordering
-                    ensures { result ≡ nat_cmp s.now.name number }
-                { s.name.cmp(&number) },
-            )
-            .is_ok()
-    }
 }
 
 // ---- files by name

@@ -22,11 +22,10 @@ ghost use Rattle.cb_index.specs.steps.Runs.{run_items};
 ghost use Rattle.cb_index.specs.steps.Spread.{items_at, rows_in};
 
 use crate::archive::{Archive, OutOfMemory, Version};
+use crate::blocks::{BlockList, Run};
 use crate::entry::{Entry, FactKind, IndexKind, Shown};
 use crate::items::{Chain, item_span};
-use crate::list::BlockList;
 use crate::order::{compare_key_bytes, compare_keys, count, def_span};
-use crate::run::Run;
 use crate::totals::count_of;
 use cb_scan::{Kind, Span};
 use std::alloc::Global;

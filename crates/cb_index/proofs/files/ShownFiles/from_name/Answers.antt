@@ -9,8 +9,8 @@ use Rattle.cb_index.proofs.BlockLemmas.{back_at, before_fits, get_or_any}
 use Rattle.cb_index.proofs.SortedLemmas.{parts_left, parts_places, parts_right}
 use Rattle.cb_index.proofs.ShownListLemmas.{all_later, below_parts, from_blocks, from_first}
 use Rattle.cb_index.proofs.ShownListLemmas.{nil_joined}
-use Rattle.cb_index.proofs.run.ShownFiles.from_name.Goals as goal
-use Rattle.cb_index.proofs.run.ShownFiles.from_name.Goals.{
+use Rattle.cb_index.proofs.files.ShownFiles.from_name.Goals as goal
+use Rattle.cb_index.proofs.files.ShownFiles.from_name.Goals.{
   then-at-self-via-then-at-self,
   then-at-self-via-else-at-self+then-is_empty,
 }

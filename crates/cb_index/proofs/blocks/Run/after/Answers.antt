@@ -2,7 +2,7 @@ use Rattle.std.proofs.Common.{rules, ◌≡◌, ◌∙◌, ◌<◌, ◌++◌, []
 use Rattle.cb_index.specs.Blocks.{before, joined}
 use Rattle.cb_index.proofs.BlockLemmas.{get_or_any}
 use Rattle.cb_index.proofs.RunLemmas.{from_place, rest_fits}
-use Rattle.cb_index.proofs.run.Run.after.Goals as goal
+use Rattle.cb_index.proofs.blocks.Run.after.Goals as goal
 
 -- no more entries than all
 pub parts-requires : goal.parts-requires

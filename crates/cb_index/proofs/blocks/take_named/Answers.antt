@@ -2,7 +2,7 @@ use Rattle.std.proofs.Common.{rules}
 use Rattle.std.proofs.lemmas.Fn.{filter_same}
 use Rattle.std.specs.Prelude.{not}
 use Rattle.cb_index.specs.Names.{is_among, names_of}
-use Rattle.cb_index.proofs.list.take_named.Goals as goal
+use Rattle.cb_index.proofs.blocks.take_named.Goals as goal
 
 pub returns-clause-items : goal.returns-clause-items
 returns-clause-items t c =

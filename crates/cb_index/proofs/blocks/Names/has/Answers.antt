@@ -3,7 +3,7 @@ use Rattle.std.proofs.lemmas.Fn.{always_returns_same}
 use Rattle.std.specs.Ordering.{nat_cmp}
 use Rattle.cb_index.specs.Names.{names_of}
 use Rattle.cb_index.proofs.NameLemmas.{among_is, found_by_name}
-use Rattle.cb_index.proofs.shown.Names.has.Goals as goal
+use Rattle.cb_index.proofs.blocks.Names.has.Goals as goal
 
 pub returns : goal.returns
 returns c =

@@ -1,7 +1,7 @@
 use Rattle.std.proofs.Common.{◌≡◌, ◌+◌, drop, length}
 use Rattle.cb_index.specs.Blocks.{joined}
 use Rattle.cb_index.specs.steps.ShownIn.{shown_in}
-use Rattle.cb_index.proofs.run.ShownFiles.len.Given as goal
+use Rattle.cb_index.proofs.files.ShownFiles.len.Given as goal
 
 abbrev pub invariant-loop-block : goal.invariant-loop-block
 invariant-loop-block l =

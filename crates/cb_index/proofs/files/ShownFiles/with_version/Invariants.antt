@@ -3,7 +3,7 @@ use Rattle.cb_index.specs.Compact.{shows_version}
 use Rattle.cb_index.specs.steps.Compact.{IsAmong}
 use Rattle.cb_index.specs.steps.ShownIn.{shown_in}
 use Rattle.cb_index.specs.declared.entry.Shown.{Shown}
-use Rattle.cb_index.proofs.run.ShownFiles.with_version.Given as goal
+use Rattle.cb_index.proofs.files.ShownFiles.with_version.Given as goal
 
 abbrev pub invariant-loop-one : goal.invariant-loop-one
 invariant-loop-one l = record {

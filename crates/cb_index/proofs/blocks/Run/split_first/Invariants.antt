@@ -1,6 +1,6 @@
 use Rattle.std.proofs.Common.{◌≡◌, length}
 use Rattle.cb_index.specs.Blocks.{joined}
-use Rattle.cb_index.proofs.run.Run.split_first.Given as goal
+use Rattle.cb_index.proofs.blocks.Run.split_first.Given as goal
 
 abbrev pub decreases-loop-block : goal.decreases-loop-block
 decreases-loop-block t l = length l.blocks

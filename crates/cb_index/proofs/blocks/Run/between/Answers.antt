@@ -4,8 +4,8 @@ use Rattle.std.specs.Prelude.{min}
 use Rattle.cb_index.specs.Blocks.{before, joined}
 use Rattle.cb_index.proofs.BlockLemmas.{get_or_any}
 use Rattle.cb_index.proofs.RunLemmas.{across_between, between_fits, inside_between, turned_between}
-use Rattle.cb_index.proofs.run.Run.between.Goals as goal
-use Rattle.cb_index.proofs.run.Run.between.Goals.{After-whole-1}
+use Rattle.cb_index.proofs.blocks.Run.between.Goals as goal
+use Rattle.cb_index.proofs.blocks.Run.between.Goals.{After-whole-1}
 
 -- it would end before it begins
 pub returns-then-to-from : goal.returns-then-to-from
