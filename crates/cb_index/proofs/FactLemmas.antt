@@ -45,50 +45,30 @@ use Rattle.cb_index.proofs.RowLemmas.{cut_is, kept_key}
 use Rattle.cb_index.proofs.TextLemmas.{text_there}
 
 -- ---- the facts of numbers
-module _ {X : Type 0} (fact : ℕ → Fact) (row : X → Fact) (key_of_x : X → List ℕ)
+module _ {X : Type 0} (fact : ℕ → Fact) (row : X → Fact) (has : ℕ → Bool) (key_of_x : X → List ℕ)
     (key : List ℕ) where
-  abbrev pub Rows : ℕ → List X → Type 0
-  Rows n [] = Unit {0}
-  Rows n (x ∷ xs) = (fact n ≡ row x) × Rows (suc n) xs
-
-  -- a test of numbers is that of the keys
-  abbrev pub Tests : (ℕ → Bool) → ℕ → List X → Type 0
-  Tests has n [] = Unit {0}
-  Tests has n (x ∷ xs) = (has n ≡ bytes_eq key (key_of_x x)) × Tests has (suc n) xs
-
   kept_number : (b : Bool) (n : ℕ) (ns : List ℕ) (x : X) (xs : List X) → fact n ≡ row x
       → map fact ns ≡ map row xs
       → map fact (cond b (n ∷ ns) ns) ≡ map row (cond b (x ∷ xs) xs)
   kept_number true n ns x xs here later = λ i. here i ∷ later i
   kept_number false n ns x xs here later = later
 
-  numbers_rows : (has : ℕ → Bool) (n : ℕ) (xs : List X) → Rows n xs → Tests has n xs
-      → map fact (filter has (range_with_len n (length xs)))
-      ≡ map row (filter (λ x. bytes_eq key (key_of_x x)) xs)
-  numbers_rows has n [] rows tests = refl
-  numbers_rows has n (x ∷ xs) rows tests =
-      ap (λ l. map fact (filter has l)) (range_next n (length xs))
-      ∙ ap (λ b. map fact (cond b (n ∷ filter has (range_with_len (suc n) (length xs)))
-      (filter has (range_with_len (suc n) (length xs))))) tests.0
-      ∙ kept_number (bytes_eq key (key_of_x x)) n
-      (filter has (range_with_len (suc n) (length xs))) x
-      (filter (λ y. bytes_eq key (key_of_x y)) xs) rows.0
-      (numbers_rows has (suc n) xs rows.1 tests.1)
-
--- ---- one version
-module _ {X : Type 0} (sort : FactKind) (a : Archived) (s : Shown) (text : Scanned)
-    (there : text_at a s.version ≡ Some text) (row : X → Fact)
-    (key_of_x : X → List ℕ) (key : List ℕ) (xs : List X)
-    (count_is : item_count sort text ≡ length xs)
-    (rows : Rows (fact_at sort (name_of a s.name) text) row key_of_x key 0 xs)
-    (tests : Tests (fact_at sort (name_of a s.name) text) row key_of_x key
-    (has sort text key) 0 xs) where
-  pub version_searched : map (fact_at sort (name_of a s.name) text) (items_with sort text key)
-      ≡ map row (filter (λ x. bytes_eq key (key_of_x x)) xs)
-  version_searched =
-      let fact = fact_at sort (name_of a s.name) text in
-      ap (λ n. map fact (filter (has sort text key) (range_with_len 0 n))) count_is
-      ∙ numbers_rows fact row key_of_x key (has sort text key) 0 xs rows tests
+  -- the fact of a number is the row of an element, and a test of the number is that of its key
+  module _ (P : X → Type 0) (all : List X)
+      (each : (n : ℕ) (x : X) → slice_get all n ≡ Some x → P x
+      → (fact n ≡ row x) × (has n ≡ bytes_eq key (key_of_x x))) where
+    numbers_rows : (n : ℕ) (xs : List X) → drop n all ≡ xs → AllByRecursion P xs
+        → map fact (filter has (range_with_len n (length xs)))
+        ≡ map row (filter (λ x. bytes_eq key (key_of_x x)) xs)
+    numbers_rows n [] is hold = refl
+    numbers_rows n (x ∷ xs) is hold =
+        let here = each n x (at_front n all ∙ ap (λ l. slice_get l 0) is) hold.0 in
+        let later = filter has (range_with_len (suc n) (length xs)) in
+        ap (λ l. map fact (filter has l)) (range_next n (length xs))
+        ∙ ap (λ b. map fact (cond b (n ∷ later) later)) here.1
+        ∙ kept_number (bytes_eq key (key_of_x x)) n later x
+        (filter (λ y. bytes_eq key (key_of_x y)) xs) here.0
+        (numbers_rows (suc n) xs (drop_next n all ∙ ap (drop 1) is) hold.1)
 
 -- ---- uses
 pub scope_is : (text : List ℕ) (scope : Option Span) → IsScopeWithin text scope
@@ -101,121 +81,56 @@ module _ (a : Archived) (s : Shown) (text : Scanned)
   abbrev file : File
   file = record { name = name_of a s.name; bytes = text.bytes }
 
-  use_tests : (n : ℕ) (us : List Use) → drop n (facts_of text).uses ≡ us
-      → AllByRecursion (λ (u : Use). IsWithin text.bytes u.name × IsScopeWithin text.bytes u.scope)
-      us
-      → Tests (fact_at Uses (name_of a s.name) text) (use_in file)
-      (λ (u : Use). bytes_of text.bytes u.name) key (has Uses text key) n us
-  use_tests n [] is within = tt
-  use_tests n (u ∷ us) is within = (
-    ap (bytes_eq key) (ap (λ o. bytes_at text.bytes (option_map (λ (x : Use). x.name) o))
-        (at_front n (facts_of text).uses ∙ ap (λ l. slice_get l 0) is)
-        ∙ cut_is text.bytes u.name within.0.0),
-    use_tests (suc n) us (drop_next n (facts_of text).uses ∙ ap (drop 1) is) within.1,
-  )
-
-  use_rows : (n : ℕ) (us : List Use) → drop n (facts_of text).uses ≡ us
-      → AllByRecursion (λ (u : Use). IsWithin text.bytes u.name × IsScopeWithin text.bytes u.scope)
-      us
-      → Rows (fact_at Uses (name_of a s.name) text) (use_in file)
-      (λ (u : Use). bytes_of text.bytes u.name) key n us
-  use_rows n [] is within = tt
-  use_rows n (u ∷ us) is within = (
-    ap (fact_of_use (name_of a s.name) text.bytes)
-        (at_front n (facts_of text).uses ∙ ap (λ l. slice_get l 0) is)
-        ∙ (λ i. record (use_in file u) {
-          name = cut_is text.bytes u.name within.0.0 i;
-          scope = scope_is text.bytes u.scope within.0.1 i;
-        }),
-    use_rows (suc n) us (drop_next n (facts_of text).uses ∙ ap (drop 1) is) within.1,
-  )
-
   uses_searched : map (fact_at Uses (name_of a s.name) text) (items_with Uses text key)
       ≡ file_uses_of text.profile key file
   uses_searched =
-      version_searched Uses a s text there (use_in file) (λ (u : Use). bytes_of text.bytes u.name)
-      key
-      (facts_of text).uses refl
-      (use_rows 0 (facts_of text).uses refl (facts_lie text.profile text.bytes).uses)
-      (use_tests 0 (facts_of text).uses refl (facts_lie text.profile text.bytes).uses)
+      numbers_rows (fact_at Uses (name_of a s.name) text) (use_in file) (has Uses text key)
+      (λ (u : Use). bytes_of text.bytes u.name) key
+      (λ (u : Use). IsWithin text.bytes u.name × IsScopeWithin text.bytes u.scope)
+      (facts_of text).uses
+      (λ n u is within. (
+        ap (fact_of_use (name_of a s.name) text.bytes) is ∙ (λ i. record (use_in file u) {
+          name = cut_is text.bytes u.name within.0 i;
+          scope = scope_is text.bytes u.scope within.1 i;
+        }),
+        ap (bytes_eq key) (ap (λ o. bytes_at text.bytes (option_map (λ (x : Use). x.name) o)) is
+            ∙ cut_is text.bytes u.name within.0),
+      )) 0 (facts_of text).uses refl (facts_lie text.profile text.bytes).uses
 
   -- ---- calls
-  module _ (n : ℕ) (c : Call) (cs : List Call) (is : drop n (facts_of text).calls ≡ c ∷ cs) where
-    found_call : slice_get (facts_of text).calls n ≡ Some c
-    found_call = at_front n (facts_of text).calls ∙ ap (λ l. slice_get l 0) is
+  abbrev IsCallWithin : Call → Type 0
+  IsCallWithin c = IsWithin text.bytes c.callee × IsWithin text.bytes c.caller
 
-    next_call : drop (suc n) (facts_of text).calls ≡ cs
-    next_call = drop_next n (facts_of text).calls ∙ ap (drop 1) is
-
-    call_is : IsWithin text.bytes c.callee × IsWithin text.bytes c.caller
-        → fact_of_call (name_of a s.name) text.bytes (slice_get (facts_of text).calls n) ≡ call_in
-        file c
-    call_is within =
-        ap (fact_of_call (name_of a s.name) text.bytes) found_call
-        ∙ (λ i. record (call_in file c) {
-          name = cut_is text.bytes c.callee within.0 i;
-          scope = Some (cut_is text.bytes c.caller within.1 i);
-        })
-
-  abbrev pub CallsWithin : List Call → Type 0
-  CallsWithin cs = AllByRecursion (λ (c : Call). IsWithin text.bytes c.callee × IsWithin text.bytes
-      c.caller) cs
-
-  callee_tests : (n : ℕ) (cs : List Call) → drop n (facts_of text).calls ≡ cs → CallsWithin cs
-      → Tests (fact_at Callees (name_of a s.name) text) (call_in file)
-      (λ (c : Call). bytes_of text.bytes c.callee) key (has Callees text key) n cs
-  callee_tests n [] is within = tt
-  callee_tests n (c ∷ cs) is within = (
-    ap (bytes_eq key)
-        (ap (λ o. bytes_at text.bytes (option_map (λ (x : Call). x.callee) o)) (found_call n c cs
-        is)
-        ∙ cut_is text.bytes c.callee within.0.0),
-    callee_tests (suc n) cs (next_call n c cs is) within.1,
-  )
-
-  caller_tests : (n : ℕ) (cs : List Call) → drop n (facts_of text).calls ≡ cs → CallsWithin cs
-      → Tests (fact_at Callers (name_of a s.name) text) (call_in file)
-      (λ (c : Call). bytes_of text.bytes c.caller) key (has Callers text key) n cs
-  caller_tests n [] is within = tt
-  caller_tests n (c ∷ cs) is within = (
-    ap (bytes_eq key)
-        (ap (λ o. bytes_at text.bytes (option_map (λ (x : Call). x.caller) o)) (found_call n c cs
-        is)
-        ∙ cut_is text.bytes c.caller within.0.1),
-    caller_tests (suc n) cs (next_call n c cs is) within.1,
-  )
-
-  callee_rows : (n : ℕ) (cs : List Call) → drop n (facts_of text).calls ≡ cs → CallsWithin cs
-      → Rows (fact_at Callees (name_of a s.name) text) (call_in file)
-      (λ (c : Call). bytes_of text.bytes c.callee) key n cs
-  callee_rows n [] is within = tt
-  callee_rows n (c ∷ cs) is within =
-      (call_is n c cs is within.0, callee_rows (suc n) cs (next_call n c cs is) within.1)
-
-  caller_rows : (n : ℕ) (cs : List Call) → drop n (facts_of text).calls ≡ cs → CallsWithin cs
-      → Rows (fact_at Callers (name_of a s.name) text) (call_in file)
-      (λ (c : Call). bytes_of text.bytes c.caller) key n cs
-  caller_rows n [] is within = tt
-  caller_rows n (c ∷ cs) is within =
-      (call_is n c cs is within.0, caller_rows (suc n) cs (next_call n c cs is) within.1)
+  call_is : (n : ℕ) (c : Call) → slice_get (facts_of text).calls n ≡ Some c → IsCallWithin c
+      → fact_of_call (name_of a s.name) text.bytes (slice_get (facts_of text).calls n)
+      ≡ call_in file c
+  call_is n c is within =
+      ap (fact_of_call (name_of a s.name) text.bytes) is ∙ (λ i. record (call_in file c) {
+        name = cut_is text.bytes c.callee within.0 i;
+        scope = Some (cut_is text.bytes c.caller within.1 i);
+      })
 
   callees_searched : map (fact_at Callees (name_of a s.name) text) (items_with Callees text key)
       ≡ file_calls_of text.profile key file
   callees_searched =
-      version_searched Callees a s text there (call_in file) (λ (c : Call). bytes_of text.bytes
-      c.callee)
-      key (facts_of text).calls refl
-      (callee_rows 0 (facts_of text).calls refl (facts_lie text.profile text.bytes).calls)
-      (callee_tests 0 (facts_of text).calls refl (facts_lie text.profile text.bytes).calls)
+      numbers_rows (fact_at Callees (name_of a s.name) text) (call_in file) (has Callees text key)
+      (λ (c : Call). bytes_of text.bytes c.callee) key IsCallWithin (facts_of text).calls
+      (λ n c is within. (
+        call_is n c is within,
+        ap (bytes_eq key) (ap (λ o. bytes_at text.bytes (option_map (λ (x : Call). x.callee) o)) is
+            ∙ cut_is text.bytes c.callee within.0),
+      )) 0 (facts_of text).calls refl (facts_lie text.profile text.bytes).calls
 
   callers_searched : map (fact_at Callers (name_of a s.name) text) (items_with Callers text key)
       ≡ file_calls_in text.profile key file
   callers_searched =
-      version_searched Callers a s text there (call_in file) (λ (c : Call). bytes_of text.bytes
-      c.caller)
-      key (facts_of text).calls refl
-      (caller_rows 0 (facts_of text).calls refl (facts_lie text.profile text.bytes).calls)
-      (caller_tests 0 (facts_of text).calls refl (facts_lie text.profile text.bytes).calls)
+      numbers_rows (fact_at Callers (name_of a s.name) text) (call_in file) (has Callers text key)
+      (λ (c : Call). bytes_of text.bytes c.caller) key IsCallWithin (facts_of text).calls
+      (λ n c is within. (
+        call_is n c is within,
+        ap (bytes_eq key) (ap (λ o. bytes_at text.bytes (option_map (λ (x : Call). x.caller) o)) is
+            ∙ cut_is text.bytes c.caller within.1),
+      )) 0 (facts_of text).calls refl (facts_lie text.profile text.bytes).calls
 
   -- ---- by kind
   pub one_searched : (kind : FactKind)

@@ -1,12 +1,13 @@
 -- The items of a text go by line, so a search for a repeat stops at an item of a line before.
-use Rattle.std.proofs.Common.{◌≡◌, ◌∙◌, ◌<◌, ◌≤◌, ℕ, zero, suc, Bool, false, length}
+use Rattle.std.proofs.Common.{◌≡◌, ◌∙◌, ◌<◌, ◌≤◌, ℕ, zero, suc, Bool, false, List, length}
 use Rattle.std.proofs.Common.{[], get_or, refl, sym, ap, arith, ⊎_elim}
-use Rattle.std.specs.Prelude.{◌||◌, Option, Some, None, slice_get}
+use Rattle.std.specs.Prelude.{◌||◌, Some, None, slice_get}
 use Rattle.std.specs.Option.{option_map_or}
+use Rattle.std.specs.List.{AllByRecursion}
 use Rattle.std.proofs.lemmas.Bool.{cases_Bool, cases_lt}
 use Rattle.std.proofs.lemmas.Option.{slice_get-get_or, slice_get_past}
 use Rattle.cb_scan.specs.Lines.{line_of}
-use Rattle.cb_scan.specs.Profiles.{IsCallOnItsLine, IsUseOnItsLine}
+use Rattle.cb_scan.specs.Order.{AreOrdered}
 use Rattle.cb_scan.specs.declared.facts.Call.{Call}
 use Rattle.cb_scan.specs.declared.facts.Use.{Use}
 use Rattle.cb_scan.proofs.FactLines.{calls_on_lines, uses_on_lines}
@@ -30,54 +31,35 @@ none_below p (suc n) none =
     none_below p n (λ i below. none i (omega (arith, below)))
     ∙ ap (λ b. b || any_below p n) (sym (none n (omega arith)))
 
+-- the lines of items do not fall, where each is on the line at which it begins
+lines_rise : {X : Type 0} (start line : X → ℕ) (text : List ℕ) (items : List X) (i j : ℕ) (d : X)
+    → i < j → j < length items → AllByRecursion (λ x. line x ≡ line_of text (start x)) items
+    → AreOrdered (λ x y. start x ≤ start y) items
+    → option_map_or line (slice_get items i) 0 ≤ option_map_or line (slice_get items j) 0
+lines_rise start line text items i j d upward below lined ordered =
+    let within : i < length items = omega (arith, upward, below) in
+    let on = all_at (λ x. line x ≡ line_of text (start x)) items in
+    let s = ap (λ o. option_map_or line o 0) (slice_get-get_or items i d within)
+    ∙ on i d within lined in
+    let t = ap (λ o. option_map_or line o 0) (slice_get-get_or items j d below)
+    ∙ on j d below lined in
+    let up = two_at (λ x y. start x ≤ start y) items ordered i j d upward below in
+    omega (arith, s, t, line_of-rises text (start (get_or items i d)) (start (get_or items j d)) up)
+
 module _ (text : Scanned) (i j : ℕ) (upward : i < j) where
   uses_rise : j < length (facts_of text).uses
       → use_line (facts_of text) i ≤ use_line (facts_of text) j
   uses_rise below =
-      let uses = (facts_of text).uses in
-      let d : Use = record { name = nowhere; line = 0; scope = None } in
-      let within : i < length uses = omega (arith, upward, below) in
-      let line : Option Use → ℕ = λ o. option_map_or (λ (u : Use). u.line) o 0 in
-      let lined = uses_on_lines text.profile text.bytes in
-      let s : use_line (facts_of text) i ≡ line_of text.bytes (get_or uses i d).name.start =
-      ap line (slice_get-get_or uses i d within)
-      ∙ all_at (IsUseOnItsLine text.bytes) uses i d within lined in
-      let t : use_line (facts_of text) j ≡ line_of text.bytes (get_or uses j d).name.start =
-      ap line (slice_get-get_or uses j d below)
-      ∙ all_at (IsUseOnItsLine text.bytes) uses j d below lined in
-      let up =
-      two_at (λ (u v : Use). u.name.start ≤ v.name.start) uses
-      (facts_in_order text.profile text.bytes).uses i j d upward below in
-      omega (
-        arith,
-        s,
-        t,
-        line_of-rises text.bytes (get_or uses i d).name.start (get_or uses j d).name.start up,
-      )
+      lines_rise (λ (u : Use). u.name.start) (λ u. u.line) text.bytes (facts_of text).uses i j
+      (record { name = nowhere; line = 0; scope = None }) upward below
+      (uses_on_lines text.profile text.bytes) (facts_in_order text.profile text.bytes).uses
 
   calls_rise : j < length (facts_of text).calls
       → call_line (facts_of text) i ≤ call_line (facts_of text) j
   calls_rise below =
-      let calls = (facts_of text).calls in
-      let d : Call = record { callee = nowhere; line = 0; caller = nowhere } in
-      let within : i < length calls = omega (arith, upward, below) in
-      let line : Option Call → ℕ = λ o. option_map_or (λ (c : Call). c.line) o 0 in
-      let lined = calls_on_lines text.profile text.bytes in
-      let s : call_line (facts_of text) i ≡ line_of text.bytes (get_or calls i d).callee.start =
-      ap line (slice_get-get_or calls i d within)
-      ∙ all_at (IsCallOnItsLine text.bytes) calls i d within lined in
-      let t : call_line (facts_of text) j ≡ line_of text.bytes (get_or calls j d).callee.start =
-      ap line (slice_get-get_or calls j d below)
-      ∙ all_at (IsCallOnItsLine text.bytes) calls j d below lined in
-      let up =
-      two_at (λ (c e : Call). c.callee.start ≤ e.callee.start) calls
-      (facts_in_order text.profile text.bytes).calls i j d upward below in
-      omega (
-        arith,
-        s,
-        t,
-        line_of-rises text.bytes (get_or calls i d).callee.start (get_or calls j d).callee.start up,
-      )
+      lines_rise (λ (c : Call). c.callee.start) (λ c. c.line) text.bytes (facts_of text).calls i j
+      (record { callee = nowhere; line = 0; caller = nowhere }) upward below
+      (calls_on_lines text.profile text.bytes) (facts_in_order text.profile text.bytes).calls
 
 items_rise : (sort : FactKind) (text : Scanned) (i j : ℕ) → i < j → j < item_count sort text
     → item_line sort (facts_of text) i ≤ item_line sort (facts_of text) j

@@ -23,6 +23,7 @@ pub mod LayLemmas
 pub mod ListedLemmas
 pub mod NameLemmas
 pub mod NewRowLemmas
+pub mod OrderingLemmas
 pub mod PrefixLemmas
 pub mod PutLemmas
 pub mod RangeItems

@@ -19,11 +19,6 @@ pub record File : Type 0 where
   pub name : List ℕ
   pub bytes : List ℕ
 
--- what is shown, by file name, and for how many versions there is room
-pub record Listing : Type 0 where
-  pub files : List Shown
-  pub room : ℕ
-
 -- the file that a version under a name is
 abbrev pub file_of : Archived → Shown → File
 file_of a s = record { name = name_of a s.name; bytes = (text_of a s.version).bytes }

@@ -9,6 +9,7 @@ pub mod Given
 pub mod Includes
 pub mod Laying
 pub mod Left
+pub mod Lists
 pub mod Moves
 pub mod Quick
 pub mod RowsLeft

@@ -1,13 +1,20 @@
-//! What is kept in blocks, and places in them, found by binary search.
+//! What is kept in blocks: blocks, and places in them, found by binary search; what is lent of them;
+//! and lists of all of them.
+ghost use Rattle.std.specs.List.{AllByRecursion, insert};
+ghost use Rattle.std.specs.List.Sorted.{IsPartitionPoint, IsPartitionedBy, IsStrictlyIncreasing};
 ghost use Rattle.std.specs.Prelude.{◌≡◌, ◌<◌, ◌≤◌, ◌+◌, ◌*◌, ◌++◌, ◌∷◌, [], IfOk, OnOk, drop};
 ghost use Rattle.std.specs.Prelude.{false, length, slice_index_or, suc, take, true, vec_capacity};
-ghost use Rattle.std.specs.List.{AllByRecursion, insert};
-ghost use Rattle.std.specs.List.Sorted.{IsPartitionPoint, IsPartitionedBy};
-ghost use Rattle.cb_index.specs.Blocks.{AreParted, IsFilled, IsPlace, before, head_is, joined};
+ghost use Rattle.std.specs.Prelude.{◌^◌, ⊤, MatchOption, filter, not};
+ghost use Rattle.std.specs.Ordering.{nat_cmp};
+ghost use Rattle.cb_index.specs.Blocks.{AreParted, IsFilled, IsPlace, IsPlaceOf, before, head_is};
+ghost use Rattle.cb_index.specs.Blocks.{joined};
+ghost use Rattle.cb_index.specs.Names.{is_among, names_of};
 ghost use Rattle.cb_index.specs.declared.blocks.TheConstants.{HALF, SIZE};
 
 use crate::archive::OutOfMemory;
-use std::alloc::Global;
+use crate::entry::{Entry, Shown};
+use std::alloc::{AllocError, Global};
+use std::cmp::Ordering;
 use std::marker::Model;
 
 // ---- a block
@@ -186,12 +193,7 @@ fn count_begun<T: Copy, B: Bound<T>>(bound: &B, blocks: &[Block<T>]) -> usize
 pub(crate) fn place_of<T: Copy, B: Bound<T>>(bound: &B, blocks: &[Block<T>]) -> Place
     requires parted { AreParted (B.is_ahead bound.now) (joined blocks.now) }
     requires filled { AllByRecursion IsFilled blocks.now }
-    ensures place { IsPlace blocks.now result.block result.at }
-    ensures ahead { AllByRecursion (λ e. B.is_ahead bound.now e ≡ true)
-        (take (before blocks.now result.block result.at) (joined blocks.now)) }
-    ensures behind { AllByRecursion (λ e. B.is_ahead bound.now e ≡ false)
-        (drop (before blocks.now result.block result.at) (joined blocks.now)) }
-    ensures start { result.at ≡ 0 → result.block ≡ 0 }
+    ensures { IsPlaceOf (B.is_ahead bound.now) blocks.now result.block result.at }
 {
     let begun = count_begun(bound, blocks);
     if begun == 0 {
@@ -361,20 +363,6 @@ impl<T: Copy + Drop> Blocks<T> {
         true
     }
 
-    /// Puts an element into a block that is not full.
-    fn put_in(&mut self, place: Place, one: T)
-        requires block { place.block < length self.old.used }
-        requires place { IsPlace self.old.used place.block place.at }
-        requires room { length (slice_index_or self.old.used place.block []) < SIZE }
-        ensures put { joined self.new.used
-            ≡ take (before self.old.used place.block place.at) (joined self.old.used)
-            ++ one ∷ drop (before self.old.used place.block place.at) (joined self.old.used) }
-        ensures count { self.new.count ≡ self.old.count }
-    {
-        let block = &mut self.used[place.block];
-        block.insert(place.at, one);
-    }
-
     /// Puts an element at a place; not where a block is wanted and none is left.
     pub(crate) fn try_insert(&mut self, place: Place, one: T) -> bool
         requires { IsPlace self.old.used place.block place.at }
@@ -390,7 +378,8 @@ impl<T: Copy + Drop> Blocks<T> {
         if self.used[place.block].is_full() {
             return self.put_split(place, one);
         }
-        self.put_in(place, one);
+        let block = &mut self.used[place.block];
+        block.insert(place.at, one);
         true
     }
 
@@ -456,5 +445,304 @@ impl<T: Copy + Drop> Blocks<T> {
             self.used.push_reserved(block);
             left = later;
         }
+    }
+}
+
+// ---- what is lent of blocks
+
+/// The rest of a block, whole blocks after it, and the front of the next one.
+pub(crate) struct Run<'a, T> {
+    first: &'a [T],
+    blocks: &'a [Block<T>],
+    last: &'a [T],
+    ghost fits: { length (first.now ++ (joined blocks.now ++ last.now)) < 2 ^ 64 },
+}
+
+impl<'a, T> Clone for Run<'a, T> {
+    ghost is_clone = { λ s r. r ≡ s };
+
+    ghost is_infallible = { λ _. ⊤ };
+
+    fn clone(&self) -> Result<Run<'a, T>, AllocError> {
+        Ok(*self)
+    }
+}
+
+impl<'a, T> Copy for Run<'a, T> {}
+
+impl<'a, T: Copy> Run<'a, T> {
+    ghost use Rattle.cb_index.specs.steps.Runs.{run_items};
+
+    /// All elements of blocks.
+    pub(crate) fn whole(blocks: &'a [Block<T>]) -> Run<'a, T>
+        requires { length (joined blocks.now) < 2 ^ 64 }
+        ensures { run_items result ≡ joined blocks.now }
+    {
+        Run {
+            first: &[],
+            blocks,
+            last: &[],
+        }
+    }
+
+    /// The elements of these, one after another.
+    fn parts(first: &'a [T], blocks: &'a [Block<T>], last: &'a [T]) -> Run<'a, T>
+        requires { length (first.now ++ (joined blocks.now ++ last.now)) < 2 ^ 64 }
+        ensures { run_items result ≡ first.now ++ (joined blocks.now ++ last.now) }
+    {
+        Run {
+            first,
+            blocks,
+            last,
+        }
+    }
+
+    /// The elements from a place up to another one.
+    pub(crate) fn between(blocks: &'a [Block<T>], from: Place, to: Place) -> Run<'a, T>
+        requires fits { length (joined blocks.now) < 2 ^ 64 }
+        requires from { IsPlace blocks.now from.block from.at }
+        requires to { IsPlace blocks.now to.block to.at }
+        ensures { run_items result ≡ drop (before blocks.now from.block from.at)
+            (take (before blocks.now to.block to.at) (joined blocks.now)) }
+    {
+        if blocks.is_empty() {
+            return Run::whole(blocks);
+        }
+        if to.block < from.block {
+            return Run::whole(&[]);
+        }
+        let last = blocks[to.block].items().split_at(to.at).0;
+        if from.block == to.block {
+            let first = last.split_at(from.at.min(to.at)).1;
+            return Run::parts(first, &[], &[]);
+        }
+        let first = blocks[from.block].items().split_at(from.at).1;
+        let whole = blocks.split_at(to.block).0.split_at(from.block + 1).1;
+        Run::parts(first, whole, last)
+    }
+
+    /// The elements from a place on.
+    pub(crate) fn after(blocks: &'a [Block<T>], from: Place) -> Run<'a, T>
+        requires fits { length (joined blocks.now) < 2 ^ 64 }
+        requires from { IsPlace blocks.now from.block from.at }
+        ensures { run_items result
+            ≡ drop (before blocks.now from.block from.at) (joined blocks.now) }
+    {
+        if blocks.is_empty() {
+            return Run::whole(blocks);
+        }
+        let first = blocks[from.block].items().split_at(from.at).1;
+        let whole = blocks.split_at(from.block + 1).1;
+        Run::parts(first, whole, &[])
+    }
+
+    /// The first element, and the others.
+    pub(crate) fn split_first(self) -> Option<(&'a T, Run<'a, T>)>
+        ensures { MatchOption result (run_items self.entry ≡ [])
+            (λ r. run_items self.entry ≡ r.0.now ∷ run_items r.1) }
+    {
+        if let Some((one, first)) = self.first.split_first() {
+            return Some((
+                one,
+                Run {
+                    first,
+                    blocks: self.blocks,
+                    last: self.last,
+                },
+            ));
+        }
+        let mut blocks = self.blocks;
+        while let Some((block, later)) = blocks.split_first() {
+            blocks = later;
+            if let Some((one, first)) = block.items().split_first() {
+                return Some((
+                    one,
+                    Run {
+                        first,
+                        blocks,
+                        last: self.last,
+                    },
+                ));
+            }
+        }
+        let (one, first) = self.last.split_first()?;
+        Some((
+            one,
+            Run {
+                first,
+                blocks: &[],
+                last: &[],
+            },
+        ))
+    }
+
+    /// How many elements there are.
+    pub(crate) fn len(&self) -> usize
+        ensures { result ≡ length (run_items self.now) }
+    {
+        let mut count = self.first.len() + self.last.len();
+        let blocks = self.blocks;
+        for block in blocks {
+            count += block.items().len();
+        }
+        count
+    }
+}
+
+// ---- a list
+
+/// Files by the numbers of their names, each below the next.
+#[derive(Clone, Copy)]
+pub(crate) struct Names<'a> {
+    pub(crate) files: &'a [Shown],
+    ghost rising: { IsStrictlyIncreasing (names_of files.now) },
+}
+
+impl<'a> Names<'a> {
+    /// Whether a number is that of one of the names, by binary search.
+    pub(crate) fn has(&self, number: u32) -> bool
+        ensures { result ≡ is_among (names_of self.now.files.now) number }
+    {
+        let files = self.files;
+        files
+            .binary_search_by(
+                |s: &Shown| -> Ordering
+                    ensures { result ≡ nat_cmp s.now.name number }
+                { s.name.cmp(&number) },
+            )
+            .is_ok()
+    }
+}
+
+/// What stands under the number of a file name.
+pub(crate) trait Named {
+    ghost use Rattle.std.specs.Prelude.{ℕ};
+
+    ghost number_of: { Self → ℕ };
+
+    /// The number.
+    fn number(&self) -> u32
+        ensures { result ≡ number_of self.now };
+}
+
+impl Named for Entry {
+    ghost number_of = { λ e. e.name };
+
+    fn number(&self) -> u32 {
+        self.name
+    }
+}
+
+impl Named for Shown {
+    ghost number_of = { λ s. s.name };
+
+    fn number(&self) -> u32 {
+        self.name
+    }
+}
+
+/// Takes away what stands under the names of files.
+pub(crate) fn take_named<T: Named + Copy>(items: &mut Vec<T>, files: &[Shown])
+    requires { IsStrictlyIncreasing (names_of files.now) }
+    ensures items { items.new.items ≡ filter
+        (λ e. not (is_among (names_of files.now) (T.number_of e))) items.old.items }
+    ensures few { length items.new.items ≤ length items.old.items }
+    ensures room { vec_capacity items.new ≡ vec_capacity items.old }
+{
+    let names = Names { files };
+    items.retain(
+        |e: &T| -> bool
+            ensures { result ≡ not
+                (is_among (names_of names.entry.files.now) (T.number_of e.now)) }
+        { !names.has(e.number()) },
+    );
+}
+
+/// A list in blocks, so that an element that comes or goes moves the others of one block. A second
+/// list has room for all; there they are put in order where many come in at once. Only `reserve`
+/// takes memory.
+#[derive(Drop)]
+pub(crate) struct BlockList<T> {
+    pub(crate) blocks: Blocks<T>,
+    pub(crate) scratch: Vec<T>,
+}
+
+impl<T> Model for BlockList<T> {
+    ghost use Rattle.std.specs.Prelude.{◌*◌, length, min, vec_capacity};
+    ghost use Rattle.cb_index.specs.Blocks.{Listing, joined};
+    ghost use Rattle.cb_index.specs.steps.Lists.{Fit};
+    ghost use Rattle.cb_index.specs.declared.blocks.TheConstants.{HALF};
+
+    ghost Value = { Listing T };
+
+    ghost view = { λ s. record {
+      items = joined s.blocks.used;
+      room = min (vec_capacity s.scratch) (HALF * s.blocks.count);
+    } };
+
+    ghost invariant = { λ s. Fit (length (joined s.blocks.used)) (vec_capacity s.scratch)
+        s.blocks.count };
+}
+
+impl<T: Copy + Drop> BlockList<T> {
+    ghost use Rattle.cb_index.specs.steps.Runs.{run_items};
+
+    /// A list of nothing. It takes no memory.
+    pub(crate) fn new(alloc: Global) -> BlockList<T>
+        ensures { result.items ≡ [] }
+    {
+        BlockList {
+            blocks: Blocks::new(alloc),
+            scratch: Vec::new(alloc),
+        }
+    }
+
+    /// Makes room for `n` elements in all. What is listed stays, also where memory is refused.
+    pub(crate) fn reserve(&mut self, n: u64) -> Result<(), OutOfMemory>
+        ensures ok { OnOk result (n ≤ self.new.room) }
+        ensures items { self.new.items ≡ self.old.items }
+        ensures room { self.old.room ≤ self.new.room }
+    {
+        match self.blocks.reserve(n as usize / HALF + 1) {
+            Ok(()) => {}
+            Err(_) => return Err(OutOfMemory),
+        }
+        self.scratch.truncate(0);
+        match self.scratch.reserve(n as usize) {
+            Ok(()) => Ok(()),
+            Err(_) => Err(OutOfMemory),
+        }
+    }
+
+    /// All elements.
+    pub(crate) fn items(&self) -> Run<'_, T>
+        ensures { run_items result ≡ self.now.items }
+    {
+        let _room = self.scratch.capacity();
+        Run::whole(self.blocks.used())
+    }
+
+    /// For how many elements there is room.
+    pub(crate) fn room(&self) -> usize
+        ensures { result ≡ self.now.room }
+    {
+        self.scratch
+            .capacity()
+            .min(self.blocks.count().saturating_mul(HALF))
+    }
+}
+
+impl<T: Named + Copy + Drop> BlockList<T> {
+    /// Takes away what stands under the names of files, in one pass. It takes no memory.
+    pub(crate) fn take_names(&mut self, files: &[Shown])
+        requires { IsStrictlyIncreasing (names_of files.now) }
+        ensures items { self.new.items ≡ filter
+            (λ e. not (is_among (names_of files.now) (T.number_of e))) self.old.items }
+        ensures room { self.old.room ≤ self.new.room }
+    {
+        self.scratch.truncate(0);
+        self.blocks.lift(&mut self.scratch);
+        take_named(&mut self.scratch, files);
+        self.blocks.deal(self.scratch.as_slice());
     }
 }

@@ -16,11 +16,12 @@ ghost use Rattle.cb_index.specs.steps.ShownIn.{shown_in};
 ghost use Rattle.cb_index.specs.declared.entry.Entry.{Entry};
 
 use crate::archive::{Archive, Version};
+use crate::blocks::Run;
 use crate::entry::{Entry, FactKind, Shown};
+use crate::files::ShownFiles;
 use crate::items::{Chain, item_count, item_key, row_count};
 use crate::repeats::take_given;
 use crate::rows::{FactRow, FactSpot, fact_at};
-use crate::run::{Run, ShownFiles};
 
 /// The facts of one key in one version that are still to come.
 #[derive(Clone, Copy)]

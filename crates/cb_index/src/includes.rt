@@ -8,8 +8,8 @@ ghost use Rattle.cb_index.specs.steps.Includes.{includes_left};
 ghost use Rattle.cb_index.specs.steps.Left.{entries_left, fact_of, shown_file};
 
 use crate::archive::{Archive, bytes_at, place_at};
+use crate::files::ShownFiles;
 use crate::rows::FactRow;
-use crate::run::ShownFiles;
 use crate::shelf::Shelf;
 use cb_scan::{Facts, Include, Source};
 

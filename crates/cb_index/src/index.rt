@@ -1,7 +1,7 @@
 //! The five indexes: of each the entries in the order of its kind, and the versions that are pending
 //! until a question comes.
-ghost use Rattle.std.specs.Prelude.{◌≡◌, ◌≤◌, ◌+◌, ◌*◌, ◌++◌, ◌∷◌, [], List, OnOk, Some, false};
-ghost use Rattle.std.specs.Prelude.{filter, length, not, true, vec_capacity};
+ghost use Rattle.std.specs.Prelude.{◌≡◌, ◌≤◌, ◌+◌, ◌++◌, ◌∷◌, [], List, OnOk, Some, false};
+ghost use Rattle.std.specs.Prelude.{filter, length, true, vec_capacity};
 ghost use Rattle.std.specs.List.{AllByRecursion};
 ghost use Rattle.std.specs.List.Sorted.{IsStrictlyIncreasing};
 ghost use Rattle.cb_scan.specs.Order.{goes_first, in_order};
@@ -10,24 +10,23 @@ ghost use Rattle.cb_index.specs.Entries.{has_key, has_key_from, sort_key};
 ghost use Rattle.cb_index.specs.Files.{shown_under};
 ghost use Rattle.cb_index.specs.Held.{Indexed, all_entries, entries_of, listed_of};
 ghost use Rattle.cb_index.specs.Kinds.{keyer_of, lister_of, prefix_of};
-ghost use Rattle.cb_index.specs.Names.{is_among, names_of};
+ghost use Rattle.cb_index.specs.Names.{names_of};
 ghost use Rattle.cb_index.specs.Shelved.{HasRoom, IsIndex, room_for};
-ghost use Rattle.cb_index.specs.declared.blocks.TheConstants.{HALF};
 ghost use Rattle.cb_index.specs.declared.entry.Entry.{Entry};
 ghost use Rattle.cb_index.specs.declared.entry.Shown.{Shown};
+ghost use Rattle.cb_index.specs.steps.Lists.{Fit};
 ghost use Rattle.cb_index.specs.steps.Moves.{Become, CanTakeIn, LetsGo, LetsGoAll, StaysItself};
 ghost use Rattle.cb_index.specs.steps.Moves.{StaysSame, TakesIn};
 ghost use Rattle.cb_index.specs.steps.Runs.{run_items};
 ghost use Rattle.cb_index.specs.steps.ToCome.{is_asked};
 
 use crate::archive::{Archive, OutOfMemory};
-use crate::blocks::{Blocks, HALF, Place, place_of};
+use crate::blocks::{BlockList, Blocks, Place, Run, place_of, take_named};
 use crate::entry::{Asked, Entry, FactKind, IndexKind, Shown};
 use crate::links::Mention;
 use crate::order::{EntryBound, Side, append, compare, count, prefix};
-use crate::run::Run;
 use crate::shelf::Room;
-use crate::shown::{Names, place_of_name};
+use crate::shown::place_of_name;
 use crate::sort::sort;
 use std::alloc::Global;
 use std::cmp::Ordering;
@@ -43,55 +42,11 @@ const FEW: usize = 5;
 /// held. One that is taken so takes about as long as that many in a pass over all.
 const FEW_GONE: usize = 256;
 
-/// The entries of the versions that were put, in the order of one kind, which each call is told. A
-/// second list has room for all of them; there they are sorted where many come in at once.
-#[derive(Drop)]
-pub(crate) struct Postings {
-    blocks: Blocks<Entry>,
-    scratch: Vec<Entry>,
-}
-
-impl Model for Postings {
-    ghost use Rattle.std.specs.Prelude.{◌≤◌, ◌*◌, min, length, vec_capacity};
-    ghost use Rattle.cb_index.specs.Blocks.{joined};
-    ghost use Rattle.cb_index.specs.Held.{Held};
-    ghost use Rattle.cb_index.specs.declared.blocks.TheConstants.{HALF};
-
-    ghost Value = { Held };
-
-    ghost view = { λ s. record {
-      entries = joined s.blocks.used;
-      room = min (vec_capacity s.scratch) (HALF * s.blocks.count);
-    } };
-
-    ghost invariant = { λ s. (length (joined s.blocks.used) ≤ vec_capacity s.scratch)
-        × (length (joined s.blocks.used) ≤ HALF * s.blocks.count) };
-}
-
 /// Whether an entry does not come after another.
 fn goes_first(kind: IndexKind, archive: &Archive, a: Entry, b: Entry) -> bool
     ensures { result ≡ goes_first (sort_key (keyer_of kind) archive.now) a b }
 {
     compare(kind, archive, a, b) != Ordering::Greater
-}
-
-/// Whether entries are in order.
-fn ascend(kind: IndexKind, archive: &Archive, entries: Run<'_, Entry>) -> bool
-    ensures { result ≡ true → run_items entries.entry
-        ≡ in_order (sort_key (keyer_of kind) archive.now) (run_items entries.entry) }
-{
-    let (mut last, mut left) = match entries.split_first() {
-        Some((entry, rest)) => (*entry, rest),
-        None => return true,
-    };
-    while let Some((entry, rest)) = left.split_first() {
-        if !goes_first(kind, archive, last, *entry) {
-            return false;
-        }
-        last = *entry;
-        left = rest;
-    }
-    true
 }
 
 /// Whether the entries of versions are few beside the `held` ones.
@@ -163,39 +118,24 @@ fn take_one(kind: IndexKind, archive: &Archive, one: Entry, blocks: &mut Blocks<
     });
 }
 
-/// Sorts all entries and others, and deals them out into blocks.
-fn sort_in(kind: IndexKind, archive: &Archive, more: &mut Vec<Entry>, blocks: &mut Blocks<Entry>)
-    requires room { length more.old.items + length (joined blocks.old.used)
-        ≤ vec_capacity more.old }
-    requires blocks { length more.old.items + length (joined blocks.old.used)
-        ≤ HALF * blocks.old.count }
-    ensures entries { joined blocks.new.used ≡ in_order (sort_key (keyer_of kind) archive.now)
-        (joined blocks.old.used ++ more.old.items) }
-    ensures room { vec_capacity more.old ≤ vec_capacity more.new }
-    ensures count { blocks.new.count ≡ blocks.old.count }
-{
-    blocks.lift(more);
-    sort(kind, archive, more);
-    blocks.deal(more.as_slice());
-}
-
 /// Puts entries between the others, one after another; all together from where no block is left.
 fn put_rest(kind: IndexKind, archive: &Archive, news: &mut Vec<Entry>, blocks: &mut Blocks<Entry>)
     requires order { joined blocks.old.used
         ≡ in_order (sort_key (keyer_of kind) archive.now) (joined blocks.old.used) }
-    requires room { length news.old.items + length (joined blocks.old.used)
-        ≤ vec_capacity news.old }
-    requires blocks { length news.old.items + length (joined blocks.old.used)
-        ≤ HALF * blocks.old.count }
+    requires fits { Fit (length news.old.items + length (joined blocks.old.used))
+        (vec_capacity news.old) blocks.old.count }
     ensures entries { joined blocks.new.used ≡ in_order (sort_key (keyer_of kind) archive.now)
         (joined blocks.old.used ++ news.old.items) }
+    ensures fits { Fit (length (joined blocks.new.used)) (vec_capacity news.new) blocks.new.count }
     ensures room { vec_capacity news.old ≤ vec_capacity news.new }
     ensures count { blocks.new.count ≡ blocks.old.count }
 {
     while let Some(one) = news.pop() {
         if !try_put(kind, archive, one, blocks) {
             news.push_reserved(one);
-            sort_in(kind, archive, news, blocks);
+            blocks.lift(news);
+            sort(kind, archive, news);
+            blocks.deal(news.as_slice());
             return;
         }
     }
@@ -217,69 +157,37 @@ fn take_rest(kind: IndexKind, archive: &Archive, gone: &mut Vec<Entry>, blocks: 
     }
 }
 
-impl Postings {
-    /// An index that holds nothing. It takes no memory.
-    pub(crate) fn new(alloc: Global) -> Postings
-        ensures { result.entries ≡ [] }
-    {
-        Postings {
-            blocks: Blocks::new(alloc),
-            scratch: Vec::new(alloc),
-        }
-    }
-
-    /// Makes room for `n` entries in all. What is held stays, also where memory is refused.
-    pub(crate) fn reserve(&mut self, n: u64) -> Result<(), OutOfMemory>
-        ensures ok { OnOk result (n ≤ self.new.room) }
-        ensures entries { self.new.entries ≡ self.old.entries }
-        ensures room { self.old.room ≤ self.new.room }
-    {
-        match self.blocks.reserve(n as usize / HALF + 1) {
-            Ok(()) => {}
-            Err(_) => return Err(OutOfMemory),
-        }
-        self.scratch.truncate(0);
-        match self.scratch.reserve(n as usize) {
-            Ok(()) => Ok(()),
-            Err(_) => Err(OutOfMemory),
-        }
-    }
-
-    /// The entries, in order.
-    pub(crate) fn entries(&self) -> Run<'_, Entry>
-        ensures { run_items result ≡ self.now.entries }
-    {
-        let _room = self.scratch.capacity();
-        Run::whole(self.blocks.used())
-    }
-
-    /// For how many entries there is room.
-    pub(crate) fn room(&self) -> usize
-        ensures { result ≡ self.now.room }
-    {
-        self.scratch
-            .capacity()
-            .min(self.blocks.count().saturating_mul(HALF))
-    }
-
+/// The entries of the versions that were put, in the order of one kind, which each call is told.
+impl BlockList<Entry> {
     /// Whether the entries are in order in an archive. They are in the one from which all were put,
     /// whatever was pushed there since.
     pub(crate) fn is_in_order(&self, kind: IndexKind, archive: &Archive) -> bool
         ensures { result ≡ true
-            → self.now.entries ≡ in_order (sort_key (keyer_of kind) archive.now) self.now.entries }
+            → self.now.items ≡ in_order (sort_key (keyer_of kind) archive.now) self.now.items }
     {
-        ascend(kind, archive, self.entries())
+        let (mut last, mut left) = match self.items().split_first() {
+            Some((entry, rest)) => (*entry, rest),
+            None => return true,
+        };
+        while let Some((entry, rest)) = left.split_first() {
+            if !goes_first(kind, archive, last, *entry) {
+                return false;
+            }
+            last = *entry;
+            left = rest;
+        }
+        true
     }
 
     /// Puts the entries of a version under a name between the others, in the room that is there. It
     /// takes no memory. Where no block is left for one of them, it sorts all.
     pub(crate) fn put_all(&mut self, kind: IndexKind, archive: &Archive, shown: Shown)
-        requires order { self.old.entries
-            ≡ in_order (sort_key (keyer_of kind) archive.now) self.old.entries }
-        requires room { length self.old.entries
+        requires order { self.old.items
+            ≡ in_order (sort_key (keyer_of kind) archive.now) self.old.items }
+        requires room { length self.old.items
             + length (listed_of (lister_of kind) archive.now shown.version) ≤ self.old.room }
-        ensures entries { self.new.entries ≡ in_order (sort_key (keyer_of kind) archive.now)
-            (self.old.entries ++ entries_of (lister_of kind) archive.now shown) }
+        ensures entries { self.new.items ≡ in_order (sort_key (keyer_of kind) archive.now)
+            (self.old.items ++ entries_of (lister_of kind) archive.now shown) }
         ensures room { self.old.room ≤ self.new.room }
     {
         self.scratch.truncate(0);
@@ -290,52 +198,42 @@ impl Postings {
     /// Puts the entries of many versions among the others, in the room that is there: one version
     /// after another where they are few, else by one sort. It takes no memory.
     pub(crate) fn put_each(&mut self, kind: IndexKind, archive: &Archive, shown: &[Shown])
-        requires order { self.old.entries
-            ≡ in_order (sort_key (keyer_of kind) archive.now) self.old.entries }
-        requires room { length self.old.entries
+        requires order { self.old.items
+            ≡ in_order (sort_key (keyer_of kind) archive.now) self.old.items }
+        requires room { length self.old.items
             + length (all_entries (lister_of kind) archive.now shown.now) ≤ self.old.room }
-        ensures entries { self.new.entries ≡ in_order (sort_key (keyer_of kind) archive.now)
-            (self.old.entries ++ all_entries (lister_of kind) archive.now shown.now) }
+        ensures entries { self.new.items ≡ in_order (sort_key (keyer_of kind) archive.now)
+            (self.old.items ++ all_entries (lister_of kind) archive.now shown.now) }
         ensures room { self.old.room ≤ self.new.room }
     {
-        if are_few(kind, archive, shown, self.entries().len()) {
+        if are_few(kind, archive, shown, self.items().len()) {
             for one in shown {
                 self.put_all(kind, archive, *one);
             }
-        } else {
-            self.sort_each(kind, archive, shown);
+            return;
         }
-    }
-
-    /// Puts the entries of many versions among the others by one sort.
-    fn sort_each(&mut self, kind: IndexKind, archive: &Archive, shown: &[Shown])
-        requires { length self.old.entries
-            + length (all_entries (lister_of kind) archive.now shown.now)
-            ≤ self.old.room }
-        ensures entries { self.new.entries ≡ in_order (sort_key (keyer_of kind) archive.now)
-            (self.old.entries ++ all_entries (lister_of kind) archive.now shown.now) }
-        ensures room { self.old.room ≤ self.new.room }
-    {
         self.scratch.truncate(0);
+        self.blocks.lift(&mut self.scratch);
         append_each(kind, archive, shown, &mut self.scratch);
-        sort_in(kind, archive, &mut self.scratch, &mut self.blocks);
+        sort(kind, archive, &mut self.scratch);
+        self.blocks.deal(self.scratch.as_slice());
     }
 
     /// Whether the entries of a version are few beside those that are held.
     pub(crate) fn has_few(&self, kind: IndexKind, archive: &Archive, version: u32) -> bool {
-        count(kind, archive, version) <= self.entries().len() / FEW_GONE
+        count(kind, archive, version) <= self.items().len() / FEW_GONE
     }
 
     /// Takes away the entries of a version under a name, all of which are there, one after another.
     /// It takes no memory, and the room stays.
     pub(crate) fn take_all(&mut self, kind: IndexKind, archive: &Archive, shown: Shown)
         requires { (rest : List Entry)
-            × (self.old.entries ≡ in_order (sort_key (keyer_of kind) archive.now)
+            × (self.old.items ≡ in_order (sort_key (keyer_of kind) archive.now)
             (entries_of (lister_of kind) archive.now shown ++ rest)) }
         ensures entries { (rest : List Entry)
-            → self.old.entries ≡ in_order (sort_key (keyer_of kind) archive.now)
+            → self.old.items ≡ in_order (sort_key (keyer_of kind) archive.now)
             (entries_of (lister_of kind) archive.now shown ++ rest)
-            → self.new.entries ≡ in_order (sort_key (keyer_of kind) archive.now) rest }
+            → self.new.items ≡ in_order (sort_key (keyer_of kind) archive.now) rest }
         ensures room { self.old.room ≤ self.new.room }
     {
         self.scratch.truncate(0);
@@ -343,32 +241,13 @@ impl Postings {
         take_rest(kind, archive, &mut self.scratch, &mut self.blocks);
     }
 
-    /// Takes away the entries under the names of many files, in one pass. It takes no memory, and
-    /// the room stays.
-    pub(crate) fn take_names(&mut self, files: &[Shown])
-        requires { IsStrictlyIncreasing (names_of files.now) }
-        ensures entries { self.new.entries
-            ≡ filter (λ (e : Entry). not (is_among (names_of files.now) e.name)) self.old.entries }
-        ensures room { self.old.room ≤ self.new.room }
-    {
-        let names = Names { files };
-        self.scratch.truncate(0);
-        self.blocks.lift(&mut self.scratch);
-        self.scratch.retain(
-            |entry: &Entry| -> bool
-                ensures { result ≡ not (is_among (names_of names.entry.files.now) entry.now.name) }
-            { !names.has(entry.name) },
-        );
-        self.blocks.deal(self.scratch.as_slice());
-    }
-
     /// The entries that have the key, in order.
     pub(crate) fn with_key(&self, kind: IndexKind, archive: &Archive, key: &[u8]) -> Run<'_, Entry>
-        requires { self.now.entries
-            ≡ in_order (sort_key (keyer_of kind) archive.now) self.now.entries }
+        requires { self.now.items
+            ≡ in_order (sort_key (keyer_of kind) archive.now) self.now.items }
         ensures { run_items result
             ≡ filter (has_key (keyer_of kind) archive.now (prefix_of kind key.now) key.now)
-            self.now.entries }
+            self.now.items }
     {
         let _room = self.scratch.capacity();
         let prefix = prefix(kind, key);
@@ -390,11 +269,11 @@ impl Postings {
 
     /// The entries whose keys are not less than this one, in order.
     pub(crate) fn from_key(&self, kind: IndexKind, archive: &Archive, key: &[u8]) -> Run<'_, Entry>
-        requires { self.now.entries
-            ≡ in_order (sort_key (keyer_of kind) archive.now) self.now.entries }
+        requires { self.now.items
+            ≡ in_order (sort_key (keyer_of kind) archive.now) self.now.items }
         ensures { run_items result
             ≡ filter (has_key_from (keyer_of kind) archive.now (prefix_of kind key.now) key.now)
-            self.now.entries }
+            self.now.items }
     {
         let _room = self.scratch.capacity();
         let prefix = prefix(kind, key);
@@ -415,7 +294,7 @@ impl Postings {
 #[derive(Drop)]
 pub(crate) struct Index {
     kind: IndexKind,
-    postings: Postings,
+    postings: BlockList<Entry>,
     pending: Vec<Shown>,
 }
 
@@ -427,7 +306,7 @@ impl Model for Index {
 
     ghost view = { λ x. record {
       kind = x.kind;
-      held = x.postings.entries;
+      held = x.postings.items;
       pending = x.pending.items;
       room = x.postings.room;
       version_room = vec_capacity x.pending;
@@ -466,7 +345,7 @@ impl Index {
     {
         Index {
             kind,
-            postings: Postings::new(alloc),
+            postings: BlockList::new(alloc),
             pending: Vec::new(alloc),
         }
     }
@@ -521,12 +400,7 @@ impl Index {
         requires { IsStrictlyIncreasing (names_of files.now) }
         ensures { LetsGoAll (names_of files.now) self.old self.new }
     {
-        let names = Names { files };
-        self.pending.retain(
-            |s: &Shown| -> bool
-                ensures { result ≡ not (is_among (names_of names.entry.files.now) s.now.name) }
-            { !names.has(s.name) },
-        );
+        take_named(&mut self.pending, files);
         self.postings.take_names(files);
     }
 
@@ -567,7 +441,7 @@ impl Index {
             ≡ filter (is_asked self.now.kind archive.now asked.entry) self.now.held }
     {
         match asked {
-            Asked::Every => self.postings.entries(),
+            Asked::Every => self.postings.items(),
             Asked::OfKey(key) => self.postings.with_key(self.kind, archive, key),
             Asked::FromKey(key) => self.postings.from_key(self.kind, archive, key),
         }

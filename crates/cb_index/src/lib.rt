@@ -18,6 +18,7 @@ mod totals;
 // What a shelf lends row by row: files and their includes, tags of definitions, uses and calls; and
 // the rows themselves.
 mod facts;
+mod files;
 mod includes;
 mod rows;
 mod tags;
@@ -29,10 +30,8 @@ mod index;
 mod order;
 mod sort;
 
-// What is kept in blocks with places in them; what is lent of these: the elements between two
-// places, and the files that are shown.
+// What is kept in blocks: places in them, what is lent of them, and lists of them.
 mod blocks;
-mod run;
 
 // The uses and calls of one key in a version, the links between them, and those whose rows are
 // equal.
@@ -47,10 +46,10 @@ mod sorted;
 pub use archive::{Archive, OutOfMemory, Version};
 pub use entry::{Entry, FactKind, IndexKind, Shown};
 pub use facts::{FactRows, FactSpots};
+pub use files::ShownFiles;
 pub use includes::{Entries, IncludeRows};
 pub use links::Links;
 pub use rows::{FactRow, FactSpot, TagSpot};
-pub use run::ShownFiles;
 pub use shelf::{Room, Shelf};
 pub use shown::are_rising;
 pub use sorted::{

@@ -195,9 +195,8 @@ fn compare_columns(sort: FactKind, text: &ScannedSource, a: Mention, b: Mention)
         ≡ slice_cmp nat_cmp (column_rest sort text.now a) (column_rest sort text.now b) }
 {
     match function_in(sort, text, a.number).cmp(function_in(sort, text, b.number)) {
-        Ordering::Less => Ordering::Less,
-        Ordering::Greater => Ordering::Greater,
         Ordering::Equal => numbers(a).cmp(&numbers(b)),
+        settled => settled,
     }
 }
 
@@ -212,9 +211,8 @@ fn compare_functions(sort: FactKind, text: &ScannedSource, a: Mention, b: Mentio
     }
     let one = hash(function_in(sort, text, a.number));
     match one.cmp(&hash(function_in(sort, text, b.number))) {
-        Ordering::Less => Ordering::Less,
-        Ordering::Greater => Ordering::Greater,
         Ordering::Equal => compare_columns(sort, text, a, b),
+        settled => settled,
     }
 }
 
@@ -232,9 +230,8 @@ fn compare_rest(
     match by {
         Likeness::Key => numbers(a).cmp(&numbers(b)),
         Likeness::Row => match a.line.cmp(&b.line) {
-            Ordering::Less => Ordering::Less,
-            Ordering::Greater => Ordering::Greater,
             Ordering::Equal => compare_functions(sort, text, a, b),
+            settled => settled,
         },
     }
 }
@@ -276,9 +273,8 @@ fn compare_keys(
         return compare_rest(by, sort, text, a, b);
     }
     match compare_by_words(key_of(text, a), key_of(text, b)) {
-        Ordering::Less => Ordering::Less,
-        Ordering::Greater => Ordering::Greater,
         Ordering::Equal => compare_rest(by, sort, text, a, b),
+        settled => settled,
     }
 }
 
@@ -287,9 +283,8 @@ fn compare(by: Likeness, sort: FactKind, text: &ScannedSource, a: Mention, b: Me
     ensures { result ≡ slice_cmp nat_cmp (rank by sort text.now a) (rank by sort text.now b) }
 {
     match a.hash.cmp(&b.hash) {
-        Ordering::Less => Ordering::Less,
-        Ordering::Greater => Ordering::Greater,
         Ordering::Equal => compare_keys(by, sort, text, a, b),
+        settled => settled,
     }
 }
 

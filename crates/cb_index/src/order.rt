@@ -296,9 +296,8 @@ fn compare_files(archive: &Archive, a: Entry, b: Entry) -> Ordering
     ensures { result ≡ slice_cmp nat_cmp (file_key archive.now a) (file_key archive.now b) }
 {
     match compare_by_words(archive.name(a.name), archive.name(b.name)) {
-        Ordering::Less => Ordering::Less,
-        Ordering::Greater => Ordering::Greater,
         Ordering::Equal => numbers(a).cmp(&numbers(b)),
+        settled => settled,
     }
 }
 
@@ -309,9 +308,8 @@ fn compare_bytes(kind: IndexKind, archive: &Archive, a: Entry, b: Entry) -> Orde
         (bytes_key (keyer_of kind) archive.now b) }
 {
     match compare_keys(kind, archive, a, b) {
-        Ordering::Less => Ordering::Less,
-        Ordering::Greater => Ordering::Greater,
         Ordering::Equal => compare_files(archive, a, b),
+        settled => settled,
     }
 }
 
@@ -322,9 +320,8 @@ pub(crate) fn compare(kind: IndexKind, archive: &Archive, a: Entry, b: Entry) ->
         (sort_key (keyer_of kind) archive.now b) }
 {
     match a.prefix.cmp(&b.prefix) {
-        Ordering::Less => Ordering::Less,
-        Ordering::Greater => Ordering::Greater,
         Ordering::Equal => compare_bytes(kind, archive, a, b),
+        settled => settled,
     }
 }
 
@@ -360,9 +357,8 @@ pub(crate) fn compare_key(
     ensures { result ≡ key_cmp (keyer_of kind) archive.now prefix key.now entry }
 {
     match prefix.cmp(&entry.prefix) {
-        Ordering::Less => Ordering::Less,
-        Ordering::Greater => Ordering::Greater,
         Ordering::Equal => compare_key_bytes(kind, archive, key, entry),
+        settled => settled,
     }
 }
 

@@ -81,13 +81,6 @@ fn have_one_row(sort: FactKind, text: &ScannedSource, a: u32, b: u32) -> bool
             == bytes_at(text.source().bytes(), item_span(sort, text.facts(), b))
 }
 
-/// The same of two items of a version.
-fn have_row(sort: FactKind, version: &Version, a: u32, b: u32) -> bool
-    ensures { result ≡ have_one_row sort version.now a b }
-{
-    have_one_row(sort, version.text(), a, b)
-}
-
 /// Whether an item is a repeat, by a search back to the last item of a line before its own: items
 /// go by line.
 fn search_repeat(sort: FactKind, version: &Version, item: u32) -> bool
@@ -100,7 +93,7 @@ fn search_repeat(sort: FactKind, version: &Version, item: u32) -> bool
         if item_line(sort, version.facts(), before) < line {
             return false;
         }
-        if have_row(sort, version, item, before) {
+        if have_one_row(sort, version.text(), item, before) {
             return true;
         }
     }

@@ -22,13 +22,14 @@ ghost use Rattle.cb_index.specs.steps.ShownIn.{shown_in};
 ghost use Rattle.cb_index.specs.steps.ToCome.{asked_tags};
 
 use crate::archive::{Archive, OutOfMemory, Version, read_bytes};
+use crate::blocks::BlockList;
 use crate::entry::{Asked, FactKind, IndexKind, Shown};
 use crate::facts::{FactRows, are_few};
+use crate::files::ShownFiles;
 use crate::includes::Entries;
 use crate::index::{Index, put_in_each, reserve_each, take_from_each, take_names_from_each};
 use crate::links::Mention;
-use crate::run::ShownFiles;
-use crate::shown::{ShownList, are_there, ascend, has_any_name};
+use crate::shown::{are_there, ascend, has_any_name};
 use crate::tags::{DefSearch, Defs, TagRows, def_kind};
 use crate::totals::{Totals, totals_of};
 use cb_scan::Profile;
@@ -60,7 +61,7 @@ const FEW: usize = 8;
 #[derive(Drop)]
 pub struct Shelf {
     archive: Archive,
-    shown: ShownList,
+    shown: BlockList<Shown>,
     indexes: [Index; 5],
     totals: Totals,
     room: Room,
@@ -76,7 +77,7 @@ impl Model for Shelf {
 
     ghost view = { λ s. record {
       archive = s.archive;
-      shown = s.shown.files;
+      shown = s.shown.items;
       turns = s.turns;
       entry_room = s.room.entries;
       def_room = s.room.defs;
@@ -84,9 +85,9 @@ impl Model for Shelf {
       call_room = s.room.calls;
     } };
 
-    ghost invariant = { λ s. AreKept s.archive s.shown.files s.indexes
-        × AreTotals s.archive s.shown.files s.totals
-        × AreWithin s.shown.files s.shown.room s.totals s.room s.indexes };
+    ghost invariant = { λ s. AreKept s.archive s.shown.items s.indexes
+        × AreTotals s.archive s.shown.items s.totals
+        × AreWithin s.shown.items s.shown.room s.totals s.room s.indexes };
 }
 
 /// The place of an index among the five.
@@ -145,7 +146,7 @@ impl Shelf {
     {
         Shelf {
             archive: Archive::new(alloc, profile),
-            shown: ShownList::new(alloc),
+            shown: BlockList::new(alloc),
             indexes: [
                 Index::new(alloc, IndexKind::DefsByName),
                 Index::new(alloc, IndexKind::DefsByTagName),
@@ -222,7 +223,7 @@ impl Shelf {
             Ok(()) => {}
             Err(_) => return Err(OutOfMemory),
         }
-        self.shown.reserve(room.entries)?;
+        self.shown.reserve(room.entries as u64)?;
         reserve_each(&mut self.indexes, &room)?;
         self.room = room;
         Ok(())

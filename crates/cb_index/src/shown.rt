@@ -1,8 +1,7 @@
 //! The list of what is shown, by file name; what is asked of lists of versions under file names,
 //! and of numbers of names.
-ghost use Rattle.std.specs.Prelude.{◌≡◌, ◌<◌, ◌≤◌, ◌+◌, ◌*◌, ◌&&◌, ◌++◌, ◌∷◌, [], ⊤, MatchOption};
-ghost use Rattle.std.specs.Prelude.{OnOk, false, filter, length, nat_eq, nat_lt, not, take, true};
-ghost use Rattle.std.specs.Prelude.{vec_capacity};
+ghost use Rattle.std.specs.Prelude.{◌≡◌, ◌<◌, ◌≤◌, ◌+◌, ◌&&◌, ◌++◌, ◌∷◌, [], ⊤, MatchOption};
+ghost use Rattle.std.specs.Prelude.{false, filter, length, nat_eq, nat_lt, not, take, true};
 ghost use Rattle.std.specs.Cmp.Lexicographic.{slice_cmp};
 ghost use Rattle.std.specs.List.{AllByRecursion, list_all, list_any, prefix_len};
 ghost use Rattle.std.specs.List.Sorted.{IsStrictlyIncreasing};
@@ -15,18 +14,15 @@ ghost use Rattle.cb_index.specs.Compact.{shows_version};
 ghost use Rattle.cb_index.specs.Files.{AreApart, AreAscending, IsThere, is_shown, shown_key};
 ghost use Rattle.cb_index.specs.Files.{shown_name, shown_under};
 ghost use Rattle.cb_index.specs.Names.{AreSingle, is_among, names_of};
-ghost use Rattle.cb_index.specs.declared.blocks.TheConstants.{HALF};
 ghost use Rattle.cb_index.specs.declared.entry.Shown.{Shown};
 ghost use Rattle.cb_index.specs.steps.Compact.{IsAmong};
 ghost use Rattle.cb_index.specs.steps.ShownIn.{shown_in};
 
-use crate::archive::{Archive, OutOfMemory, compare_by_words};
-use crate::blocks::{Block, Blocks, Bound, HALF, Place, place_of};
+use crate::archive::{Archive, compare_by_words};
+use crate::blocks::{Block, BlockList, Blocks, Bound, Place, place_of};
 use crate::entry::Shown;
-use crate::run::ShownFiles;
-use std::alloc::Global;
+use crate::files::ShownFiles;
 use std::cmp::Ordering;
-use std::marker::Model;
 
 // ---- numbers of names
 
@@ -39,29 +35,6 @@ pub fn are_rising(files: &[Shown]) -> bool
             ensures { result ≡ nat_lt a.now.name b.now.name }
         { a.name < b.name },
     )
-}
-
-/// Files by the numbers of their names, each below the next.
-#[derive(Clone, Copy)]
-pub(crate) struct Names<'a> {
-    pub(crate) files: &'a [Shown],
-    ghost rising: { IsStrictlyIncreasing (names_of files.now) },
-}
-
-impl<'a> Names<'a> {
-    /// Whether a number is that of one of the names, by binary search.
-    pub(crate) fn has(&self, number: u32) -> bool
-        ensures { result ≡ is_among (names_of self.now.files.now) number }
-    {
-        let files = self.files;
-        files
-            .binary_search_by(
-                |s: &Shown| -> Ordering
-                    ensures { result ≡ nat_cmp s.now.name number }
-                { s.name.cmp(&number) },
-            )
-            .is_ok()
-    }
 }
 
 // ---- files by name
@@ -113,9 +86,8 @@ fn compare_shown(archive: &Archive, a: Shown, b: Shown) -> Ordering
     ensures { result ≡ slice_cmp nat_cmp (shown_key archive.now a) (shown_key archive.now b) }
 {
     match compare_by_words(archive.name(a.name), archive.name(b.name)) {
-        Ordering::Less => Ordering::Less,
-        Ordering::Greater => Ordering::Greater,
         Ordering::Equal => numbers(a).cmp(&numbers(b)),
+        settled => settled,
     }
 }
 
@@ -204,37 +176,13 @@ pub(crate) fn ascend(archive: &Archive, news: &[Shown]) -> bool
 
 // ---- all that is shown
 
-/// What is shown, by file name, in blocks, so that a file that comes or goes moves the others of
-/// one block. A second list has room for all; there they are sorted where many come in at once.
-/// Only `reserve` takes memory.
-#[derive(Drop)]
-pub(crate) struct ShownList {
-    blocks: Blocks<Shown>,
-    scratch: Vec<Shown>,
-}
-
-impl Model for ShownList {
-    ghost use Rattle.std.specs.Prelude.{◌≤◌, ◌*◌, min, length, vec_capacity};
-    ghost use Rattle.cb_index.specs.Blocks.{joined};
-    ghost use Rattle.cb_index.specs.Files.{Listing};
-    ghost use Rattle.cb_index.specs.declared.blocks.TheConstants.{HALF};
-
-    ghost Value = { Listing };
-
-    ghost view = { λ s. record {
-      files = joined s.blocks.used;
-      room = min (vec_capacity s.scratch) (HALF * s.blocks.count);
-    } };
-
-    ghost invariant = { λ s. (length (joined s.blocks.used) ≤ vec_capacity s.scratch)
-        × (length (joined s.blocks.used) ≤ HALF * s.blocks.count) };
-}
-
 /// Puts a version among the others, by file name; not where a block is wanted and none is left.
 fn try_put(archive: &Archive, one: Shown, blocks: &mut Blocks<Shown>) -> bool
     requires { AreAscending archive.now (joined blocks.old.used) }
     ensures put { result ≡ true → joined blocks.new.used
         ≡ put (shown_name archive.now) one (joined blocks.old.used) }
+    ensures len { result ≡ true
+        → length (joined blocks.new.used) ≡ length (joined blocks.old.used) + 1 }
     ensures stays { result ≡ false → blocks.new.used ≡ blocks.old.used }
     ensures count { blocks.new.count ≡ blocks.old.count }
 {
@@ -272,9 +220,9 @@ fn note_block(block: usize, shown: &[Shown], archive: &mut Archive)
 /// Takes what is shown under the number of a name away. It is looked for by its file name.
 fn take(archive: &Archive, name: u32, blocks: &mut Blocks<Shown>) -> Option<Shown>
     requires { AreAscending archive.now (joined blocks.old.used) }
-    ensures value { result ≡ shown_under name (joined blocks.old.used) }
-    ensures files { joined blocks.new.used
-        ≡ filter (λ (s : Shown). not (nat_eq s.name name)) (joined blocks.old.used) }
+    ensures taken { (result ≡ shown_under name (joined blocks.old.used))
+        × (joined blocks.new.used
+        ≡ filter (λ (s : Shown). not (nat_eq s.name name)) (joined blocks.old.used)) }
     ensures count { blocks.new.count ≡ blocks.old.count }
 {
     let bound = AfterName {
@@ -297,37 +245,11 @@ fn take(archive: &Archive, name: u32, blocks: &mut Blocks<Shown>) -> Option<Show
     Some(one)
 }
 
-impl ShownList {
-    /// A list of nothing. It takes no memory.
-    pub(crate) fn new(alloc: Global) -> ShownList
-        ensures { result.files ≡ [] }
-    {
-        ShownList {
-            blocks: Blocks::new(alloc),
-            scratch: Vec::new(alloc),
-        }
-    }
-
-    /// Makes room for `n` versions in all. What is listed stays, also where memory is refused.
-    pub(crate) fn reserve(&mut self, n: u32) -> Result<(), OutOfMemory>
-        ensures ok { OnOk result (n ≤ self.new.room) }
-        ensures files { self.new.files ≡ self.old.files }
-        ensures room { self.old.room ≤ self.new.room }
-    {
-        match self.blocks.reserve(n as usize / HALF + 1) {
-            Ok(()) => {}
-            Err(_) => return Err(OutOfMemory),
-        }
-        self.scratch.truncate(0);
-        match self.scratch.reserve(n as usize) {
-            Ok(()) => Ok(()),
-            Err(_) => Err(OutOfMemory),
-        }
-    }
-
+/// What is shown, by file name.
+impl BlockList<Shown> {
     /// What is listed.
     pub(crate) fn files(&self) -> ShownFiles<'_>
-        ensures { shown_in result ≡ self.now.files }
+        ensures { shown_in result ≡ self.now.items }
     {
         let _room = self.scratch.capacity();
         ShownFiles::whole(self.blocks.used())
@@ -336,8 +258,8 @@ impl ShownList {
     /// A file that shows a version, if one does. It is looked for first where it is likely to
     /// stand.
     pub(crate) fn with_version(&self, version: usize, likely: Place) -> Option<Shown>
-        ensures { MatchOption result (shows_version version self.now.files ≡ false)
-            (λ s. (s.version ≡ version) × IsAmong self.now.files s) }
+        ensures { MatchOption result (shows_version version self.now.items ≡ false)
+            (λ s. (s.version ≡ version) × IsAmong self.now.items s) }
     {
         if let Some(one) = at_place(likely, self.blocks.used())
             && one.version as usize == version
@@ -359,11 +281,11 @@ impl ShownList {
     /// Puts versions among the others: one at its place, more by one sort. No two of them have one
     /// file name. It takes no memory.
     pub(crate) fn put_all(&mut self, archive: &Archive, news: &[Shown])
-        requires ascending { AreAscending archive.now self.old.files }
-        requires apart { AreApart archive.now (self.old.files ++ news.now) }
-        requires room { length self.old.files + length news.now ≤ self.old.room }
-        ensures files { self.new.files
-            ≡ in_order (shown_name archive.now) (self.old.files ++ news.now) }
+        requires ascending { AreAscending archive.now self.old.items }
+        requires apart { AreApart archive.now (self.old.items ++ news.now) }
+        requires room { length self.old.items + length news.now ≤ self.old.room }
+        ensures files { self.new.items
+            ≡ in_order (shown_name archive.now) (self.old.items ++ news.now) }
         ensures room { self.old.room ≤ self.new.room }
     {
         if news.is_empty() {
@@ -374,17 +296,6 @@ impl ShownList {
         {
             return;
         }
-        self.sort_with(archive, news);
-    }
-
-    /// Puts versions among the others by one sort.
-    fn sort_with(&mut self, archive: &Archive, news: &[Shown])
-        requires apart { AreApart archive.now (self.old.files ++ news.now) }
-        requires room { length self.old.files + length news.now ≤ self.old.room }
-        ensures files { self.new.files
-            ≡ in_order (shown_name archive.now) (self.old.files ++ news.now) }
-        ensures room { self.old.room ≤ self.new.room }
-    {
         self.scratch.truncate(0);
         self.blocks.lift(&mut self.scratch);
         if self.scratch.extend_from_slice(news).is_err() {
@@ -396,30 +307,12 @@ impl ShownList {
 
     /// Takes what is shown under the number of a name away. It takes no memory.
     pub(crate) fn take_under(&mut self, archive: &Archive, name: u32) -> Option<Shown>
-        requires { AreAscending archive.now self.old.files }
-        ensures value { result ≡ shown_under name self.old.files }
-        ensures files { self.new.files
-            ≡ filter (λ (s : Shown). not (nat_eq s.name name)) self.old.files }
+        requires { AreAscending archive.now self.old.items }
+        ensures value { result ≡ shown_under name self.old.items }
+        ensures files { self.new.items
+            ≡ filter (λ (s : Shown). not (nat_eq s.name name)) self.old.items }
         ensures room { self.old.room ≤ self.new.room }
     {
         take(archive, name, &mut self.blocks)
-    }
-
-    /// Takes away what is shown under the names of many files, in one pass. It takes no memory.
-    pub(crate) fn take_names(&mut self, files: &[Shown])
-        requires { IsStrictlyIncreasing (names_of files.now) }
-        ensures files { self.new.files
-            ≡ filter (λ (s : Shown). not (is_among (names_of files.now) s.name)) self.old.files }
-        ensures room { self.old.room ≤ self.new.room }
-    {
-        self.scratch.truncate(0);
-        self.blocks.lift(&mut self.scratch);
-        let names = Names { files };
-        self.scratch.retain(
-            |s: &Shown| -> bool
-                ensures { result ≡ not (is_among (names_of names.entry.files.now) s.now.name) }
-            { !names.has(s.name) },
-        );
-        self.blocks.deal(self.scratch.as_slice());
     }
 }

@@ -232,6 +232,7 @@ fn sort_slice(kind: IndexKind, archive: &Archive, entries: &mut [Entry])
 pub(crate) fn sort(kind: IndexKind, archive: &Archive, entries: &mut Vec<Entry>)
     ensures items { entries.new.items
         ≡ in_order (sort_key (keyer_of kind) archive.now) entries.old.items }
+    ensures len { length entries.new.items ≡ length entries.old.items }
     ensures room { vec_capacity entries.new ≡ vec_capacity entries.old }
 {
     sort_slice(kind, archive, entries.as_mut_slice());

@@ -22,11 +22,10 @@ ghost use Rattle.cb_index.specs.steps.Runs.{run_items};
 ghost use Rattle.cb_index.specs.steps.Spread.{items_at, rows_in};
 
 use crate::archive::{Archive, OutOfMemory, Version};
+use crate::blocks::{BlockList, Run};
 use crate::entry::{Entry, FactKind, IndexKind, Shown};
-use crate::index::Postings;
 use crate::items::{Chain, item_span};
 use crate::order::{compare_key_bytes, compare_keys, count, def_span};
-use crate::run::Run;
 use crate::totals::count_of;
 use cb_scan::{Kind, Span};
 use std::alloc::Global;
@@ -426,7 +425,7 @@ impl<'a> Iterator for Rows<'a> {
 /// The rows of the versions that were put, in the order `O`.
 #[derive(Drop)]
 pub struct Sorted<O> {
-    postings: Postings,
+    postings: BlockList<Entry>,
     order: PhantomData<O>,
 }
 
@@ -435,7 +434,10 @@ impl<O> Model for Sorted<O> {
 
     ghost Value = { Held };
 
-    ghost view = { λ s. s.postings };
+    ghost view = { λ s. record {
+      entries = s.postings.items;
+      room = s.postings.room;
+    } };
 }
 
 /// The facts of which the first of each key is an entry; none where each definition is one.
@@ -455,7 +457,7 @@ impl<O: RowOrder> Sorted<O> {
         ensures rows { (a : Archived) → HoldsRowsOf O.kind a [] result.entries }
     {
         Sorted {
-            postings: Postings::new(alloc),
+            postings: BlockList::new(alloc),
             order: PhantomData,
         }
     }

@@ -13,10 +13,11 @@ ghost use Rattle.cb_index.specs.steps.ToCome.{GoesOn, earlier, first_of, is_aske
 ghost use Rattle.cb_index.specs.steps.ToCome.{to_come};
 
 use crate::archive::Archive;
+use crate::blocks::Run;
 use crate::entry::{Asked, Entry, IndexKind, Shown};
+use crate::files::ShownFiles;
 use crate::order::{compare, compare_key, compare_key_bytes, def_entry, defs_of, prefix};
 use crate::rows::TagSpot;
-use crate::run::{Run, ShownFiles};
 use cb_tags::TagRow;
 use std::cmp::Ordering;
 

@@ -7,7 +7,7 @@ ghost use Rattle.cb_index.specs.steps.ShownIn.{shown_in};
 
 use crate::archive::Archive;
 use crate::entry::{FactKind, IndexKind, Shown};
-use crate::run::ShownFiles;
+use crate::files::ShownFiles;
 
 /// So many definitions, uses and calls.
 #[derive(Clone, Copy, Debug, PartialEq, Eq)]

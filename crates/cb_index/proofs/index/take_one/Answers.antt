@@ -3,7 +3,7 @@ use Rattle.std.proofs.Common.{arith}
 use Rattle.std.proofs.lemmas.Bool.{true≢false}
 use Rattle.std.specs.List.{AllByRecursion}
 use Rattle.cb_scan.specs.Order.{in_order}
-use Rattle.cb_index.specs.Blocks.{IsPlace, before, joined}
+use Rattle.cb_index.specs.Blocks.{IsPlaceOf, before, joined}
 use Rattle.cb_index.specs.Entries.{sort_key}
 use Rattle.cb_index.specs.declared.order.Side.TheVariants.{Behind}
 use Rattle.cb_index.specs.steps.Bounds.{is_ahead}
@@ -32,16 +32,14 @@ unreachable-requires c =
     let k = c.place_of-place.result.block in
     let j = c.place_of-place.result.at in
     let held = c.args.blocks.now.used in
-    let behind : AllByRecursion (λ e. is_ahead keyer a (Behind one) e ≡ false)
-    (drop (before held k j) (joined held)) =
-    subst (λ bs. AllByRecursion (λ e. is_ahead keyer a (Behind one) e ≡ false)
-    (drop (before bs k j) (joined bs))) c.used.ensures.value c.place_of-place.ensures.behind in
+    let place =
+    subst (λ bs. IsPlaceOf (is_ahead keyer a (Behind one)) bs k j) c.used.ensures.value
+    c.place_of-place.ensures in
     true≢false (behind_some keyer a one c.requires.0 (joined held) c.requires.1
     (subst (λ n. AllByRecursion (λ e. is_ahead keyer a (Behind one) e ≡ false)
-    (drop (before held n 0) (joined held)))
-    (c.place_of-place.ensures.start c.if-place-eq0.true)
+    (drop (before held n 0) (joined held))) (place.start c.if-place-eq0.true)
     (subst (λ n. AllByRecursion (λ e. is_ahead keyer a (Behind one) e ≡ false)
-    (drop (before held k n) (joined held))) c.if-place-eq0.true behind)))
+    (drop (before held k n) (joined held))) c.if-place-eq0.true place.behind)))
 
 pub returns-clause-taken : goal.returns-clause-taken
 returns-clause-taken c = λ rest is.
@@ -52,18 +50,17 @@ returns-clause-taken c = λ rest is.
     let j = c.place_of-place.result.at in
     let held = c.args.blocks.now.used in
     let some : 0 < j = omega (arith, c.if-place-eq0.false) in
-    let place : IsPlace held k j =
-    subst (λ bs. IsPlace bs k j) c.used.ensures.value c.place_of-place.ensures.place in
-    let fits = before_fits held k j (place_there held k j place some) place.1 in
+    let place =
+    subst (λ bs. IsPlaceOf (is_ahead keyer a (Behind one)) bs k j) c.used.ensures.value
+    c.place_of-place.ensures in
+    let fits = before_fits held k j (place_there held k j place.place some) place.place.1 in
     let next : before held k j ≡ suc (before held k (j - 1)) = omega (arith, some) in
     c.remove.ensures.taken
     ∙ behind_taken keyer a one (before held k (j - 1)) rest (joined held) is
     (omega (arith, fits, next))
     (subst
     (λ n. AllByRecursion (λ e. is_ahead keyer a (Behind one) e ≡ true) (take n (joined held))) next
-    (subst (λ bs. AllByRecursion (λ e. is_ahead keyer a (Behind one) e ≡ true)
-    (take (before bs k j) (joined bs))) c.used.ensures.value c.place_of-place.ensures.ahead))
+    place.ahead)
     (subst
     (λ n. AllByRecursion (λ e. is_ahead keyer a (Behind one) e ≡ false) (drop n (joined held))) next
-    (subst (λ bs. AllByRecursion (λ e. is_ahead keyer a (Behind one) e ≡ false)
-    (drop (before bs k j) (joined bs))) c.used.ensures.value c.place_of-place.ensures.behind))
+    place.behind)

@@ -1,7 +1,6 @@
-use Rattle.std.proofs.Common.{◌≡◌, ◌∙◌, true, false, sym, subst, take, drop}
-use Rattle.std.specs.List.{AllByRecursion}
+use Rattle.std.proofs.Common.{◌≡◌, ◌∙◌, sym, subst}
 use Rattle.cb_scan.specs.Order.{in_order}
-use Rattle.cb_index.specs.Blocks.{before, joined}
+use Rattle.cb_index.specs.Blocks.{IsPlaceOf, before, joined}
 use Rattle.cb_index.specs.Entries.{sort_key}
 use Rattle.cb_index.specs.declared.order.Side.TheVariants.{Behind}
 use Rattle.cb_index.specs.steps.Bounds.{is_ahead}
@@ -25,9 +24,9 @@ returns-clause-put c = λ is.
     let k = c.place_of-place.result.block in
     let j = c.place_of-place.result.at in
     let held = c.args.blocks.now.used in
+    let place =
+    subst (λ bs. IsPlaceOf (is_ahead keyer a (Behind one)) bs k j) c.used.ensures.value
+    c.place_of-place.ensures in
     c.try_insert.ensures.put is
-    ∙ behind_inserted keyer a one (before held k j) (joined held) c.requires
-    (subst (λ bs. AllByRecursion (λ e. is_ahead keyer a (Behind one) e ≡ true)
-    (take (before bs k j) (joined bs))) c.used.ensures.value c.place_of-place.ensures.ahead)
-    (subst (λ bs. AllByRecursion (λ e. is_ahead keyer a (Behind one) e ≡ false)
-    (drop (before bs k j) (joined bs))) c.used.ensures.value c.place_of-place.ensures.behind)
+    ∙ behind_inserted keyer a one (before held k j) (joined held) c.requires place.ahead
+    place.behind

@@ -2,23 +2,16 @@ use Rattle.std.proofs.Common.{◌∙◌, sym}
 use Rattle.std.specs.Cmp.Lexicographic.{slice_cmp}
 use Rattle.std.specs.Ordering.{nat_cmp, ordering_then}
 use Rattle.cb_index.specs.steps.Laying.{bytes_rank, rank}
+use Rattle.cb_index.proofs.OrderingLemmas.{settled}
 use Rattle.cb_index.proofs.links.compare.Goals as goal
 
-pub returns-in-Less : goal.returns-in-Less
+pub returns-in_default : goal.returns-in_default
 unfolding rank
-returns-in-Less c =
+returns-in_default c =
     let text = c.args.text.now in
-    λ i. ordering_then ((sym c.in-Less.is ∙ c.cmp.ensures) i)
+    settled c.cmp.result
     (slice_cmp nat_cmp (bytes_rank c.args.by c.args.sort text c.args.a)
-    (bytes_rank c.args.by c.args.sort text c.args.b))
-
-pub returns-in-Greater : goal.returns-in-Greater
-unfolding rank
-returns-in-Greater c =
-    let text = c.args.text.now in
-    λ i. ordering_then ((sym c.in-Greater.is ∙ c.cmp.ensures) i)
-    (slice_cmp nat_cmp (bytes_rank c.args.by c.args.sort text c.args.a)
-    (bytes_rank c.args.by c.args.sort text c.args.b))
+    (bytes_rank c.args.by c.args.sort text c.args.b)) c.in_default.not-Equal c.cmp.ensures
 
 pub returns-in-Equal : goal.returns-in-Equal
 unfolding rank

@@ -5,6 +5,7 @@ use Rattle.cb_scan.specs.TextFacts.{TextFacts}
 use Rattle.cb_index.specs.steps.Laying.{column_rest, hash}
 use Rattle.cb_index.specs.steps.FunctionSpans.{function_span}
 use Rattle.cb_index.proofs.LayLemmas.{one_span_cmp}
+use Rattle.cb_index.proofs.OrderingLemmas.{settled}
 use Rattle.cb_index.proofs.links.compare_functions.Goals as goal
 
 pub returns-then-have_one_span : goal.returns-then-have_one_span
@@ -22,29 +23,17 @@ returns-then-have_one_span c =
     (sym (ap (λ (t : TextFacts). function_span sort t a.number) c.facts.ensures) ∙ same
     ∙ ap (λ (t : TextFacts). function_span sort t b.number) c.facts.ensures)
 
-pub returns-in-Less : goal.returns-in-Less
-returns-in-Less c =
+pub returns-in_default : goal.returns-in_default
+returns-in_default c =
     let sort = c.args.sort in
     let text = c.args.text.now in
-    let a = c.args.a in
-    let b = c.args.b in
-    λ i. ordering_then ((sym c.in-Less.is ∙ c.cmp-2.ensures
+    settled c.cmp-2.result
+    (slice_cmp nat_cmp (column_rest sort text c.args.a) (column_rest sort text c.args.b))
+    c.in_default.not-Equal
+    (c.cmp-2.ensures
     ∙ (λ j. nat_cmp
     ((c.hash-one.ensures ∙ ap hash c.function_in.ensures) j)
-    ((c.hash.ensures ∙ ap hash c.function_in-2.ensures) j))) i)
-    (slice_cmp nat_cmp (column_rest sort text a) (column_rest sort text b))
-
-pub returns-in-Greater : goal.returns-in-Greater
-returns-in-Greater c =
-    let sort = c.args.sort in
-    let text = c.args.text.now in
-    let a = c.args.a in
-    let b = c.args.b in
-    λ i. ordering_then ((sym c.in-Greater.is ∙ c.cmp-2.ensures
-    ∙ (λ j. nat_cmp
-    ((c.hash-one.ensures ∙ ap hash c.function_in.ensures) j)
-    ((c.hash.ensures ∙ ap hash c.function_in-2.ensures) j))) i)
-    (slice_cmp nat_cmp (column_rest sort text a) (column_rest sort text b))
+    ((c.hash.ensures ∙ ap hash c.function_in-2.ensures) j)))
 
 pub returns-in-Equal : goal.returns-in-Equal
 returns-in-Equal c =

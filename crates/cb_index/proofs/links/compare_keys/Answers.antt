@@ -3,6 +3,7 @@ use Rattle.std.specs.Cmp.Lexicographic.{slice_cmp}
 use Rattle.std.specs.Ordering.{nat_cmp, ordering_then}
 use Rattle.cb_index.specs.steps.Laying.{key_rest}
 use Rattle.cb_index.proofs.LayLemmas.{bytes_cmp, one_place_cmp}
+use Rattle.cb_index.proofs.OrderingLemmas.{settled}
 use Rattle.cb_index.proofs.links.compare_keys.Goals as goal
 
 pub returns-then-have_one_place : goal.returns-then-have_one_place
@@ -11,27 +12,15 @@ returns-then-have_one_place c =
     ∙ one_place_cmp c.args.by c.args.sort c.args.text.now c.args.a c.args.b
     (c.have_one_place.ensures c.if-have_one_place.true)
 
-pub returns-in-Less : goal.returns-in-Less
-returns-in-Less c =
-    let a = c.args.a in
-    let b = c.args.b in
+pub returns-in_default : goal.returns-in_default
+returns-in_default c =
     let text = c.args.text.now in
-    (λ i. ordering_then ((sym c.in-Less.is ∙ c.compare_by_words.ensures
-    ∙ (λ j. slice_cmp nat_cmp (c.key_of.ensures j) (c.key_of-2.ensures j))) i)
-    (slice_cmp nat_cmp (key_rest c.args.by c.args.sort text a)
-    (key_rest c.args.by c.args.sort text b)))
-    ∙ bytes_cmp c.args.by c.args.sort text a b
-
-pub returns-in-Greater : goal.returns-in-Greater
-returns-in-Greater c =
-    let a = c.args.a in
-    let b = c.args.b in
-    let text = c.args.text.now in
-    (λ i. ordering_then ((sym c.in-Greater.is ∙ c.compare_by_words.ensures
-    ∙ (λ j. slice_cmp nat_cmp (c.key_of.ensures j) (c.key_of-2.ensures j))) i)
-    (slice_cmp nat_cmp (key_rest c.args.by c.args.sort text a)
-    (key_rest c.args.by c.args.sort text b)))
-    ∙ bytes_cmp c.args.by c.args.sort text a b
+    settled c.compare_by_words.result
+    (slice_cmp nat_cmp (key_rest c.args.by c.args.sort text c.args.a)
+    (key_rest c.args.by c.args.sort text c.args.b)) c.in_default.not-Equal
+    (c.compare_by_words.ensures
+    ∙ (λ j. slice_cmp nat_cmp (c.key_of.ensures j) (c.key_of-2.ensures j)))
+    ∙ bytes_cmp c.args.by c.args.sort text c.args.a c.args.b
 
 pub returns-in-Equal : goal.returns-in-Equal
 returns-in-Equal c =

@@ -3,27 +3,17 @@ use Rattle.std.specs.Cmp.Lexicographic.{slice_cmp}
 use Rattle.std.specs.Ordering.{nat_cmp, ordering_then}
 use Rattle.cb_index.specs.Entries.{bytes_key, sort_key}
 use Rattle.cb_index.specs.Kinds.{keyer_of}
+use Rattle.cb_index.proofs.OrderingLemmas.{settled}
 use Rattle.cb_index.proofs.order.compare.Goals as goal
 
-pub returns-in-Less : goal.returns-in-Less
+pub returns-in_default : goal.returns-in_default
 unfolding sort_key
-returns-in-Less c =
+returns-in_default c =
     let keyer = keyer_of c.args.kind in
-    let archive = c.args.archive.now in
-    let e = c.args.a in
-    let f = c.args.b in
-    λ i. ordering_then ((sym c.in-Less.is ∙ c.cmp.ensures) i)
-    (slice_cmp nat_cmp (bytes_key keyer archive e) (bytes_key keyer archive f))
-
-pub returns-in-Greater : goal.returns-in-Greater
-unfolding sort_key
-returns-in-Greater c =
-    let keyer = keyer_of c.args.kind in
-    let archive = c.args.archive.now in
-    let e = c.args.a in
-    let f = c.args.b in
-    λ i. ordering_then ((sym c.in-Greater.is ∙ c.cmp.ensures) i)
-    (slice_cmp nat_cmp (bytes_key keyer archive e) (bytes_key keyer archive f))
+    let a = c.args.archive.now in
+    settled c.cmp.result
+    (slice_cmp nat_cmp (bytes_key keyer a c.args.a) (bytes_key keyer a c.args.b))
+    c.in_default.not-Equal c.cmp.ensures
 
 pub returns-in-Equal : goal.returns-in-Equal
 unfolding sort_key

@@ -19,12 +19,13 @@ returns-then-item_line-line c =
     c.loop-before.invariant.0 (omega (arith, own, other, c.if-item_line-line.true))
     ∙ c.loop-before.invariant.1
 
-pub returns-then-have_row : goal.returns-then-have_row
-returns-then-have_row c =
+pub returns-then-have_one_row : goal.returns-then-have_one_row
+returns-then-have_one_row c =
     let k = c.loop-before.before in
     any_found (have_one_row c.args.sort c.args.version.now c.args.item) k (k - 1)
     (omega (arith, c.loop-before-test.true))
-    (sym c.have_row.ensures ∙ c.if-have_row.true)
+    (ap (λ t. have_one_row c.args.sort t c.args.item (k - 1)) (sym c.text.ensures)
+    ∙ sym c.have_one_row.ensures ∙ c.if-have_one_row.true)
     ∙ c.loop-before.invariant.1
 
 pub loop-before-preserved : goal.loop-before-preserved
@@ -33,7 +34,8 @@ loop-before-preserved c =
       omega (arith, c.loop-before.invariant.0),
       any_passed (have_one_row c.args.sort c.args.version.now c.args.item) k (k - 1)
           (omega (arith, c.loop-before-test.true))
-          (sym c.have_row.ensures ∙ c.if-have_row.false)
+          (ap (λ t. have_one_row c.args.sort t c.args.item (k - 1)) (sym c.text.ensures)
+          ∙ sym c.have_one_row.ensures ∙ c.if-have_one_row.false)
           ∙ c.loop-before.invariant.1,
     )
 

@@ -2,25 +2,19 @@ use Rattle.std.proofs.Common.{◌∙◌, [], ◌∷◌, sym}
 use Rattle.std.specs.Cmp.Lexicographic.{slice_cmp}
 use Rattle.std.specs.Ordering.{nat_cmp, ordering_then}
 use Rattle.cb_index.proofs.ListedLemmas.{shown_cmp}
+use Rattle.cb_index.proofs.OrderingLemmas.{settled}
 use Rattle.cb_index.proofs.shown.compare_shown.Goals as goal
 
-pub returns-in-Less : goal.returns-in-Less
-returns-in-Less c =
-    let archive = c.args.archive.now in
-    let e = c.args.a in
-    let f = c.args.b in
-    (λ i. ordering_then ((sym c.in-Less.is ∙ c.compare_by_words.ensures
-    ∙ (λ j. slice_cmp nat_cmp (c.name.ensures j) (c.name-2.ensures j))) i)
-    (slice_cmp nat_cmp (e.name ∷ e.version ∷ []) (f.name ∷ f.version ∷ []))) ∙ shown_cmp archive e f
-
-pub returns-in-Greater : goal.returns-in-Greater
-returns-in-Greater c =
-    let archive = c.args.archive.now in
-    let e = c.args.a in
-    let f = c.args.b in
-    (λ i. ordering_then ((sym c.in-Greater.is ∙ c.compare_by_words.ensures
-    ∙ (λ j. slice_cmp nat_cmp (c.name.ensures j) (c.name-2.ensures j))) i)
-    (slice_cmp nat_cmp (e.name ∷ e.version ∷ []) (f.name ∷ f.version ∷ []))) ∙ shown_cmp archive e f
+pub returns-in_default : goal.returns-in_default
+returns-in_default c =
+    let s = c.args.a in
+    let t = c.args.b in
+    settled c.compare_by_words.result
+    (slice_cmp nat_cmp (s.name ∷ s.version ∷ []) (t.name ∷ t.version ∷ []))
+    c.in_default.not-Equal
+    (c.compare_by_words.ensures
+    ∙ (λ j. slice_cmp nat_cmp (c.name.ensures j) (c.name-2.ensures j)))
+    ∙ shown_cmp c.args.archive.now s t
 
 pub returns-in-Equal : goal.returns-in-Equal
 returns-in-Equal c =

@@ -1,10 +1,12 @@
-use Rattle.std.proofs.Common.{◌≡◌, ◌∙◌, true, false, sym, subst, take, drop}
-use Rattle.std.specs.List.{AllByRecursion}
-use Rattle.cb_index.specs.Blocks.{before, joined}
-use Rattle.cb_index.specs.Files.{AreAscending}
+use Rattle.std.proofs.Common.{◌≡◌, ◌∙◌, true, sym, ap, subst, length, arith}
+use Rattle.cb_scan.specs.Order.{put}
+use Rattle.cb_index.specs.Blocks.{IsPlaceOf, before, joined}
+use Rattle.cb_index.specs.Files.{AreAscending, shown_name}
 use Rattle.cb_index.specs.steps.Bounds.{is_below}
+use Rattle.cb_index.proofs.InOrderLemmas.{length_put}
 use Rattle.cb_index.proofs.ShownListLemmas.{below_parts, put_between}
 use Rattle.cb_index.proofs.shown.try_put.Goals as goal
+use Rattle.cb_index.proofs.shown.try_put.Goals.{After-try_insert}
 
 pub place_of-place-requires-clause-parted : goal.place_of-place-requires-clause-parted
 place_of-place-requires-clause-parted c =
@@ -12,20 +14,26 @@ place_of-place-requires-clause-parted c =
     below_parts a c.name.result.now (joined c.used.result.now)
     (subst (λ bs. AreAscending a (joined bs)) (sym c.used.ensures.value) c.requires)
 
-pub returns-clause-put : goal.returns-clause-put
-returns-clause-put c = λ is.
+placed : (c : After-try_insert) → c.try_insert.result ≡ true
+    → joined c.try_insert.new.self.used
+    ≡ put (shown_name c.args.archive.now) c.args.one (joined c.args.blocks.now.used)
+placed c is =
     let a = c.args.archive.now in
     let k = c.place_of-place.result.block in
     let j = c.place_of-place.result.at in
     let held = c.args.blocks.now.used in
+    let place =
+    subst (λ n. IsPlaceOf (is_below a n) held k j) c.name.ensures
+    (subst (λ bs. IsPlaceOf (is_below a c.name.result.now) bs k j) c.used.ensures.value
+    c.place_of-place.ensures) in
     c.try_insert.ensures.put is
-    ∙ put_between a c.args.one (before held k j) (joined held)
-    (subst (λ n. AllByRecursion (λ s. is_below a n s ≡ true) (take (before held k j) (joined held)))
-    c.name.ensures
-    (subst (λ bs. AllByRecursion (λ s. is_below a c.name.result.now s ≡ true)
-    (take (before bs k j) (joined bs))) c.used.ensures.value c.place_of-place.ensures.ahead))
-    (subst
-    (λ n. AllByRecursion (λ s. is_below a n s ≡ false) (drop (before held k j) (joined held)))
-    c.name.ensures
-    (subst (λ bs. AllByRecursion (λ s. is_below a c.name.result.now s ≡ false)
-    (drop (before bs k j) (joined bs))) c.used.ensures.value c.place_of-place.ensures.behind))
+    ∙ put_between a c.args.one (before held k j) (joined held) place.ahead place.behind
+
+pub returns-clause-put : goal.returns-clause-put
+returns-clause-put c = placed c
+
+pub returns-clause-len : goal.returns-clause-len
+returns-clause-len c = λ is.
+    let size = ap length (placed c is) in
+    let more = length_put (shown_name c.args.archive.now) c.args.one (joined c.args.blocks.now.used) in
+    omega (arith, size, more)

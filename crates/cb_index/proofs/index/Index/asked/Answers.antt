@@ -8,6 +8,6 @@ pub returns-in-Every : goal.returns-in-Every
 returns-in-Every c =
     let x = c.args.self.now in
     let a = c.args.archive.now in
-    c.entries.ensures ∙ ap (λ (x : Indexed). x.held) c.self.view_is
+    c.items.ensures ∙ ap (λ (x : Indexed). x.held) c.self.view_is
     ∙ sym (all_asked x.kind a x.held)
     ∙ ap (λ asked. filter (is_asked x.kind a asked) x.held) (sym c.in-Every.is)

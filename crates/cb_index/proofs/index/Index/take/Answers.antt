@@ -49,7 +49,7 @@ take_all-requires c =
     all_entries (lister_of x.kind) a
     (filter (λ (s : Shown). not (nat_eq s.name one.name)) c.requires.1.sorted) in (
       rest,
-      subst (λ k. HasOnes a one c.self.inside.postings.entries k rest) (sym kind)
+      subst (λ k. HasOnes a one c.self.inside.postings.items k rest) (sym kind)
           (ap (λ (x : Indexed). x.held) c.self.view_is ∙ covers_held (keyer_of x.kind)
           (lister_of x.kind) a one c.requires.0 x none c.requires.2 c.requires.1),
     )
@@ -68,8 +68,8 @@ returns-then-has_few c =
     let counted : c.len.result ≡ length c.self.inside.pending.items = search rules in
     let none =
     none_waits a one.name x.pending (sym at ∙ c.if-at-len.true ∙ counted ∙ ap length same) in
-    let old = c.self.inside.postings.entries in
-    let new = c.take_all.new.self.entries in
+    let old = c.self.inside.postings.items in
+    let new = c.take_all.new.self.items in
     let taken =
     subst (λ k. (rest : List Entry) → HasOnes a one old k rest
     → new ≡ in_order (sort_key (keyer_of k) a) rest) kind c.take_all.ensures.entries in
@@ -103,7 +103,7 @@ returns-else-has_few c =
       others = λ shown is under.
           of_its_kind a (filter (λ (s : Shown). not (nat_eq s.name one.name)) shown) x _ kind
           (covers_passed (keyer_of x.kind) (lister_of x.kind) a one shown x _ none
-          (c.take_names.ensures.entries
+          (c.take_names.ensures.items
           ∙ ap (λ (x : Indexed). filter
           (λ (e : Entry). not (is_among (one.name ∷ []) e.name)) x.held) c.self.view_is)
           same is);

@@ -1,5 +1,4 @@
 use Rattle.std.proofs.Common.{rules, ◌∙◌, ap, filter}
-use Rattle.std.proofs.lemmas.Fn.{filter_same}
 use Rattle.std.specs.Prelude.{not}
 use Rattle.cb_index.specs.Held.{Indexed}
 use Rattle.cb_index.specs.Names.{is_among, names_of}
@@ -10,12 +9,10 @@ use Rattle.cb_index.proofs.index.Index.take_names.Goals as goal
 pub returns : goal.returns
 returns c = record {
   itself = search rules;
-  held = c.take_names.ensures.entries
+  held = c.take_names.ensures.items
       ∙ ap (λ (x : Indexed). filter
       (λ (e : Entry). not (is_among (names_of c.args.files.now) e.name)) x.held) c.self.view_is;
-  pending =
-      filter_same _ (λ (s : Shown). not (is_among (names_of c.args.files.now) s.name)) _
-      (λ e r f k. (search (rules, k), search (rules, k))) _ _ c.retain.ensures.filtered
+  pending = c.take_named.ensures.items
       ∙ ap (λ (x : Indexed). filter
       (λ (s : Shown). not (is_among (names_of c.args.files.now) s.name)) x.pending) c.self.view_is;
 }

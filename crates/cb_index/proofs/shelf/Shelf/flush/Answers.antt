@@ -14,8 +14,8 @@ flush-requires-clause-order c =
     subst (λ m. m < length s.indexes) (sym c.place_of.ensures)
     (place_below c.args.kind s.indexes c.self.invariant.0.kinds) in
     let x : Indexed = slice_index_or s.indexes n d in
-    in_its_order x.kind s.archive s.shown.files x refl
-    (all_at (IsIndex s.archive s.shown.files) s.indexes n d below c.self.invariant.0.each)
+    in_its_order x.kind s.archive s.shown.items x refl
+    (all_at (IsIndex s.archive s.shown.items) s.indexes n d below c.self.invariant.0.each)
 
 pub flush-requires-clause-room : goal.flush-requires-clause-room
 flush-requires-clause-room c =
@@ -26,10 +26,10 @@ flush-requires-clause-room c =
     subst (λ m. m < length s.indexes) (sym c.place_of.ensures)
     (place_below c.args.kind s.indexes c.self.invariant.0.kinds) in
     let x : Indexed = slice_index_or s.indexes n d in
-    flush_fits s.archive s.shown.files s.shown.room s.totals s.room s.indexes x
+    flush_fits s.archive s.shown.items s.shown.room s.totals s.room s.indexes x
     c.self.invariant.1 c.self.invariant.2
     (all_at (HasRoom s.room) s.indexes n d below c.self.invariant.2.each)
-    (all_at (IsIndex s.archive s.shown.files) s.indexes n d below c.self.invariant.0.each)
+    (all_at (IsIndex s.archive s.shown.items) s.indexes n d below c.self.invariant.0.each)
 
 pub invariant_of-self : goal.invariant_of-self
 invariant_of-self c =
@@ -41,10 +41,10 @@ invariant_of-self c =
     (place_below c.args.kind s.indexes c.self.invariant.0.kinds) in
     let y = c.flush.new.self in
     let done = c.flush.ensures in (
-      subst (λ a. AreKept a s.shown.files (slice_set s.indexes n y)) (sym done.archive)
-          (kept_flushed s.archive s.shown.files s.indexes n y d below done.itself done.held
+      subst (λ a. AreKept a s.shown.items (slice_set s.indexes n y)) (sym done.archive)
+          (kept_flushed s.archive s.shown.items s.indexes n y d below done.itself done.held
           done.pending c.self.invariant.0),
-      subst (λ a. AreTotals a s.shown.files s.totals) (sym done.archive) c.self.invariant.1,
-      within_flushed s.archive s.shown.files s.indexes n y d below done.itself
+      subst (λ a. AreTotals a s.shown.items s.totals) (sym done.archive) c.self.invariant.1,
+      within_flushed s.archive s.shown.items s.indexes n y d below done.itself
           s.shown.room s.totals s.room c.self.invariant.2,
     )

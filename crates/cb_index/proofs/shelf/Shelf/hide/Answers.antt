@@ -15,9 +15,9 @@ use Rattle.cb_index.proofs.shelf.Shelf.hide.Goals as goal
 pub take_from_each-requires : goal.take_from_each-requires
 take_from_each-requires c =
     let x = c.self.inside in (
-      x.shown.files,
+      x.shown.items,
       c.self.invariant.0.each,
-      under_itself x.archive c.args.name x.shown.files c.in-Some.one
+      under_itself x.archive c.args.name x.shown.items c.in-Some.one
           (sym c.take_under.ensures.value ∙ c.in-Some.is),
     )
 
@@ -29,13 +29,13 @@ without-self-inside-requires c =
     let are = c.self.invariant.1 in
     record {
       defs =
-          total_over def_count a c.args.name c.self.inside.shown.files c.in-Some.one _ under
+          total_over def_count a c.args.name c.self.inside.shown.items c.in-Some.one _ under
           c.self.invariant.0.ascending are.defs;
       uses =
-          total_over use_count a c.args.name c.self.inside.shown.files c.in-Some.one _ under
+          total_over use_count a c.args.name c.self.inside.shown.items c.in-Some.one _ under
           c.self.invariant.0.ascending are.uses;
       calls =
-          total_over call_count a c.args.name c.self.inside.shown.files c.in-Some.one _ under
+          total_over call_count a c.args.name c.self.inside.shown.items c.in-Some.one _ under
           c.self.invariant.0.ascending are.calls;
     }
 
@@ -44,7 +44,7 @@ pub invariant_of-self-2 : goal.invariant_of-self-2
 invariant_of-self-2 c =
     let x = c.self.inside in
     let a = x.archive in
-    let shown = x.shown.files in
+    let shown = x.shown.items in
     let under = sym c.take_under.ensures.value ∙ c.in-Some.is in
     let named = under_named a c.args.name shown c.in-Some.one under in
     let itself = under_itself a c.args.name shown c.in-Some.one under in
@@ -54,10 +54,10 @@ invariant_of-self-2 c =
     let other : Shown → Bool = λ s. not (nat_eq s.name c.args.name) in
     let fewer = length-filter_both other (λ s. not (other s)) (λ s. refl) shown in
     let count = ap length left in (
-      kept_taken a shown c.take_under.new.self.files x.indexes c.take_from_each.new.indexes
+      kept_taken a shown c.take_under.new.self.items x.indexes c.take_from_each.new.indexes
           c.args.name c.in-Some.one left named itself
           c.take_from_each.ensures c.self.invariant.0,
-      totals_out a c.args.name shown c.take_under.new.self.files c.in-Some.one x.totals
+      totals_out a c.args.name shown c.take_under.new.self.items c.in-Some.one x.totals
           c.without-self-inside.result under
           c.self.invariant.0.ascending left less.defs less.uses less.calls c.self.invariant.1,
       record {
@@ -82,8 +82,8 @@ pub invariant_of-self : goal.invariant_of-self
 invariant_of-self c =
     let x = c.self.inside in
     let under = sym c.take_under.ensures.value ∙ c.in-None.is in
-    let same : c.take_under.new.self.files ≡ x.shown.files =
-    c.take_under.ensures.files ∙ none_under x.archive c.args.name x.shown.files under in
+    let same : c.take_under.new.self.items ≡ x.shown.items =
+    c.take_under.ensures.files ∙ none_under x.archive c.args.name x.shown.items under in
     let within = c.self.invariant.2 in (
       subst (λ l. AreKept x.archive l x.indexes) (sym same) c.self.invariant.0,
       subst (λ l. AreTotals x.archive l x.totals) (sym same) c.self.invariant.1,

@@ -17,9 +17,9 @@ new-requires-clause-few c =
     let s = c.self.inside in
     let kind = def_kind c.args.by_tag_name in
     let all =
-    length_all (lister_of kind) (count_for kind) (fewer_of kind) s.archive s.shown.files in
+    length_all (lister_of kind) (count_for kind) (fewer_of kind) s.archive s.shown.items in
     let within =
-    defs_fit c.args.by_tag_name s.archive s.shown.files _ s.totals s.room s.indexes
+    defs_fit c.args.by_tag_name s.archive s.shown.items _ s.totals s.room s.indexes
     c.self.invariant.1 c.self.invariant.2 in
     let same =
     ap (λ l. length (all_entries (lister_of kind) s.archive l)) c.files-shown.ensures in
@@ -33,7 +33,7 @@ returns-then-not-is_flushed-clause-tags c =
     ap (map (tag_at s.archive))
     (c.new.ensures ∙ ap (λ l. to_come kind s.archive asked None
     (all_entries (lister_of kind) s.archive l)) c.files-shown.ensures
-    ∙ asked_first kind s.archive asked (all_entries (lister_of kind) s.archive s.shown.files))
+    ∙ asked_first kind s.archive asked (all_entries (lister_of kind) s.archive s.shown.items))
     ∙ ap (λ (v : Shelved). asked_tags kind v.archive asked v.shown) c.self.view_is
 
 pub asked-requires : goal.asked-requires
@@ -42,7 +42,7 @@ asked-requires c =
     let is =
     subst (λ (s : Shelved). IsIndex s.archive s.shown x)
     (sym c.self.view_is) c.index-index.ensures.index in
-    in_its_order x.kind c.self.inside.archive c.self.inside.shown.files x refl is
+    in_its_order x.kind c.self.inside.archive c.self.inside.shown.items x refl is
 
 pub returns-clause-tags : goal.returns-clause-tags
 returns-clause-tags c =
@@ -55,7 +55,7 @@ returns-clause-tags c =
     subst (λ (s : Shelved). IsIndex s.archive s.shown x)
     (sym c.self.view_is) c.index-index.ensures.index in
     let held =
-    all_held kind s.archive s.shown.files x same
+    all_held kind s.archive s.shown.items x same
     (c.is_flushed.ensures c.if-not-is_flushed.false) is in
     ap (map (tag_at s.archive))
     (c.asked.ensures ∙ (λ i. filter (is_asked (same i) s.archive asked) (held i)))

@@ -13,7 +13,7 @@ invariant_of-result c =
     λ i. c.new-3.ensures.kind i ∷ c.new-4.ensures.kind i ∷ c.new-5.ensures.kind i
     ∷ c.new-6.ensures.kind i ∷ c.new-7.ensures.kind i ∷ [] in
     let none = ap length c.new-2.ensures in (
-      kept_none c.new.result c.new-2.result.files xs c.new-2.ensures kinds (
+      kept_none c.new.result c.new-2.result.items xs c.new-2.ensures kinds (
         (c.new-3.ensures.held, c.new-3.ensures.pending),
         (
           (c.new-4.ensures.held, c.new-4.ensures.pending),
@@ -26,7 +26,7 @@ invariant_of-result c =
           ),
         ),
       ),
-      totals_none c.new.result c.new-2.result.files c.new-2.ensures,
+      totals_none c.new.result c.new-2.result.items c.new-2.ensures,
       record {
         entries = omega (arith, none);
         defs = omega arith;

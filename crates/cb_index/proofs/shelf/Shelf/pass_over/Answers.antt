@@ -15,12 +15,12 @@ pub of_fewer-self-inside-requires : goal.of_fewer-self-inside-requires
 of_fewer-self-inside-requires c =
     let a = c.self.inside.archive in
     let stays : Shown → Bool = λ s. not (is_among (names_of c.args.files.now) s.name) in
-    let is = c.files.ensures ∙ c.take_names.ensures.files in
+    let is = c.files.ensures ∙ c.take_names.ensures.items in
     let are = c.self.invariant.1 in
     record {
-      defs = total_left def_count a stays c.self.inside.shown.files _ _ is are.defs;
-      uses = total_left use_count a stays c.self.inside.shown.files _ _ is are.uses;
-      calls = total_left call_count a stays c.self.inside.shown.files _ _ is are.calls;
+      defs = total_left def_count a stays c.self.inside.shown.items _ _ is are.defs;
+      uses = total_left use_count a stays c.self.inside.shown.items _ _ is are.uses;
+      calls = total_left call_count a stays c.self.inside.shown.items _ _ is are.calls;
     }
 
 -- the indexes are those of what is still shown
@@ -28,10 +28,10 @@ pub invariant_of-self : goal.invariant_of-self
 invariant_of-self c =
     let x = c.self.inside in
     let a = x.archive in
-    let shown = x.shown.files in
+    let shown = x.shown.items in
     let names = names_of c.args.files.now in
     let stays : Shown → Bool = λ s. not (is_among names s.name) in
-    let left = c.take_names.ensures.files in
+    let left = c.take_names.ensures.items in
     let are = c.self.invariant.1 in
     let within = c.self.invariant.2 in
     let now = c.of_fewer-self-inside.ensures in
@@ -42,7 +42,7 @@ invariant_of-self c =
     let counted = length-filter stays shown in
     let fewer = count_by-le-length stays shown in
     let count = ap length left in (
-      kept_hidden a shown c.take_names.new.self.files x.indexes c.take_names_from_each.new.indexes
+      kept_hidden a shown c.take_names.new.self.items x.indexes c.take_names_from_each.new.indexes
           names left c.take_names_from_each.ensures c.self.invariant.0,
       record {
         defs = now.defs ∙ ap (total def_count a) c.files.ensures;
@@ -64,4 +64,4 @@ invariant_of-self c =
 pub returns-clause-shown : goal.returns-clause-shown
 returns-clause-shown c =
     let stays : Shown → Bool = λ s. not (is_among (names_of c.args.files.now) s.name) in
-    c.take_names.ensures.files ∙ ap (λ (s : Shelved). filter stays s.shown) c.self.view_is
+    c.take_names.ensures.items ∙ ap (λ (s : Shelved). filter stays s.shown) c.self.view_is

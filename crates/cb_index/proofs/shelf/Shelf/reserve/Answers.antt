@@ -13,10 +13,10 @@ invariant_of-self c = c.self.invariant
 pub invariant_of-self-in-Err : goal.invariant_of-self-in-Err
 invariant_of-self-in-Err c =
     let x = c.self.inside in (
-      kept_moved x.archive c.reserve.new.self x.shown.files x.indexes c.reserve.ensures.same_profile
+      kept_moved x.archive c.reserve.new.self x.shown.items x.indexes c.reserve.ensures.same_profile
           c.reserve.ensures.same_names
           c.reserve.ensures.same_texts c.self.invariant.0,
-      totals_moved x.archive c.reserve.new.self x.shown.files _ x.totals
+      totals_moved x.archive c.reserve.new.self x.shown.items _ x.totals
           c.reserve.ensures.same_profile c.reserve.ensures.same_texts refl c.self.invariant.1,
       c.self.invariant.2,
     )
@@ -25,13 +25,13 @@ invariant_of-self-in-Err c =
 pub invariant_of-self-in_err-reserve : goal.invariant_of-self-in_err-reserve
 invariant_of-self-in_err-reserve c =
     let x = c.self.inside in
-    let items = c.reserve-2.ensures.files in
+    let items = c.reserve-2.ensures.items in
     let within = c.self.invariant.2 in (
-      kept_moved x.archive c.reserve.new.self c.reserve-2.new.self.files x.indexes
+      kept_moved x.archive c.reserve.new.self c.reserve-2.new.self.items x.indexes
           c.reserve.ensures.same_profile c.reserve.ensures.same_names c.reserve.ensures.same_texts
-          (kept_list x.archive x.shown.files c.reserve-2.new.self.files x.indexes
+          (kept_list x.archive x.shown.items c.reserve-2.new.self.items x.indexes
           items c.self.invariant.0),
-      totals_moved x.archive c.reserve.new.self x.shown.files _ x.totals
+      totals_moved x.archive c.reserve.new.self x.shown.items _ x.totals
           c.reserve.ensures.same_profile c.reserve.ensures.same_texts items c.self.invariant.1,
       record {
         entries = let count = ap length items in omega (arith, within.entries, count);
@@ -47,14 +47,14 @@ invariant_of-self-in_err-reserve c =
 pub invariant_of-self-in_err-reserve_each : goal.invariant_of-self-in_err-reserve_each
 invariant_of-self-in_err-reserve_each c =
     let x = c.self.inside in
-    let items = c.reserve-2.ensures.files in
+    let items = c.reserve-2.ensures.items in
     let same = c.reserve_each.ensures.same in
     let within = c.self.invariant.2 in (
-      kept_moved x.archive c.reserve.new.self c.reserve-2.new.self.files c.reserve_each.new.indexes
+      kept_moved x.archive c.reserve.new.self c.reserve-2.new.self.items c.reserve_each.new.indexes
           c.reserve.ensures.same_profile c.reserve.ensures.same_names c.reserve.ensures.same_texts
-          (kept_as x.archive x.shown.files c.reserve-2.new.self.files x.indexes
+          (kept_as x.archive x.shown.items c.reserve-2.new.self.items x.indexes
           c.reserve_each.new.indexes items same c.self.invariant.0),
-      totals_moved x.archive c.reserve.new.self x.shown.files _ x.totals
+      totals_moved x.archive c.reserve.new.self x.shown.items _ x.totals
           c.reserve.ensures.same_profile c.reserve.ensures.same_texts items c.self.invariant.1,
       record {
         entries = let count = ap length items in omega (arith, within.entries, count);
@@ -71,15 +71,15 @@ invariant_of-self-in_err-reserve_each c =
 pub invariant_of-self-2 : goal.invariant_of-self-2
 invariant_of-self-2 c =
     let x = c.self.inside in
-    let items = c.reserve-2.ensures.files in
+    let items = c.reserve-2.ensures.items in
     let same = c.reserve_each.ensures.same in
     let within = c.self.invariant.2 in
     let larger = larger_fits c.larger-room.result x.room c.args.room.now c.larger-room.ensures in (
-      kept_moved x.archive c.reserve.new.self c.reserve-2.new.self.files c.reserve_each.new.indexes
+      kept_moved x.archive c.reserve.new.self c.reserve-2.new.self.items c.reserve_each.new.indexes
           c.reserve.ensures.same_profile c.reserve.ensures.same_names c.reserve.ensures.same_texts
-          (kept_as x.archive x.shown.files c.reserve-2.new.self.files x.indexes
+          (kept_as x.archive x.shown.items c.reserve-2.new.self.items x.indexes
           c.reserve_each.new.indexes items same c.self.invariant.0),
-      totals_moved x.archive c.reserve.new.self x.shown.files _ x.totals
+      totals_moved x.archive c.reserve.new.self x.shown.items _ x.totals
           c.reserve.ensures.same_profile c.reserve.ensures.same_texts items c.self.invariant.1,
       record {
         entries =

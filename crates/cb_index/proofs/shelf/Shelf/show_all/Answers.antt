@@ -18,7 +18,7 @@ put_all-requires c =
     let within = c.self.invariant.2 in record {
       ascending = c.self.invariant.0.ascending;
       apart =
-          apart_both c.self.inside.archive c.self.inside.shown.files c.args.news.now
+          apart_both c.self.inside.archive c.self.inside.shown.items c.args.news.now
           c.self.invariant.0.ascending asked.apart asked.other;
       room = omega (arith, asked.entries, within.listed);
     }
@@ -42,13 +42,13 @@ invariant_of-self c =
     let more = c.with-self-inside.ensures in
     let items = c.put_all.ensures.files in
     let count =
-    ap length items ∙ length_in_order (shown_name a) (x.shown.files ++ c.args.news.now) in
-    let parts = length-append x.shown.files c.args.news.now in (
+    ap length items ∙ length_in_order (shown_name a) (x.shown.items ++ c.args.news.now) in
+    let parts = length-append x.shown.items c.args.news.now in (
       subst (λ l. AreKept a l c.put_in_each.new.indexes) (sym items)
-          (kept_each a x.shown.files c.args.news.now asked.apart asked.other
+          (kept_each a x.shown.items c.args.news.now asked.apart asked.other
           c.self.invariant.0.ascending
           x.indexes c.put_in_each.new.indexes asked.there c.put_in_each.ensures c.self.invariant.0),
-      totals_each a (shown_name a) x.shown.files c.args.news.now c.put_all.new.self.files
+      totals_each a (shown_name a) x.shown.items c.args.news.now c.put_all.new.self.items
           x.totals c.with-self-inside.result
           (record { defs = more.defs; uses = more.uses; calls = more.calls }) items are,
       record {

@@ -8,13 +8,13 @@ use Rattle.cb_index.proofs.shelf.Shelf.truncate.Goals as goal
 -- what is shown is among the first
 pub invariant_of-self : goal.invariant_of-self
 invariant_of-self c = (
-  kept_front c.self.inside.archive c.truncate.new.self c.self.inside.shown.files
+  kept_front c.self.inside.archive c.truncate.new.self c.self.inside.shown.items
       c.self.inside.indexes c.args.versions c.args.names
       (subst (AllByRecursion (λ (s : Shown). (s.version < c.args.versions)
       × (s.name < c.args.names))) (sym (ap (λ s. s.shown) c.self.view_is)) c.requires)
       c.truncate.ensures.profile c.truncate.ensures.names c.truncate.ensures.texts
       c.self.invariant.0,
-  totals_front c.self.inside.archive c.truncate.new.self c.self.inside.shown.files
+  totals_front c.self.inside.archive c.truncate.new.self c.self.inside.shown.items
       c.self.inside.totals
       c.args.versions c.args.names c.truncate.ensures.profile c.truncate.ensures.texts
       (subst (AllByRecursion (λ (s : Shown). (s.version < c.args.versions)

@@ -9,32 +9,30 @@ use Rattle.cb_index.specs.steps.Spread.{rows_in}
 use Rattle.cb_index.proofs.RowsAscendLemmas.{ascend}
 use Rattle.cb_index.proofs.SpreadLemmas.{spread}
 use Rattle.cb_index.proofs.sorted.Sorted.range.Goals as goal
+use Rattle.cb_index.proofs.sorted.Sorted.range.Goals.{After-new}
 
 -- the rows of the entries that have the key
+are : (t : _) (c : After-new t) → rows_left c.new.result
+    ≡ rows_in (fact_kind t.O.RowOrder.kind) c.args.archive.now (filter (has_key
+    (keyer_of t.O.RowOrder.kind) c.args.archive.now (prefix_of t.O.RowOrder.kind c.args.key.now)
+    c.args.key.now) c.args.self.now.entries)
+are t c = search rules
+
 pub returns-clause-entries : goal.returns-clause-entries
-returns-clause-entries t c = search rules
+returns-clause-entries t c = are t c
 
 pub returns-clause-rows : goal.returns-clause-rows
-returns-clause-rows t c =
-    let kind = t.O.RowOrder.kind in
-    let a = c.args.archive.now in
-    let key = c.args.key.now in
-    let es = c.args.self.now.entries in
-    let are : rows_left c.new.result
-    ≡ rows_in (fact_kind kind) a (filter (has_key (keyer_of kind) a (prefix_of kind key) key) es) =
-    search rules in
-    λ files held. are ∙ spread kind a files key es held.there held.ascending held.entries
+returns-clause-rows t c = λ files held.
+    are t c
+    ∙ spread t.O.RowOrder.kind c.args.archive.now files c.args.key.now c.args.self.now.entries
+    held.there held.ascending held.entries
 
 pub returns-clause-ascending : goal.returns-clause-ascending
-returns-clause-ascending t c =
+returns-clause-ascending t c = λ files held.
     let kind = t.O.RowOrder.kind in
     let a = c.args.archive.now in
     let key = c.args.key.now in
-    let es = c.args.self.now.entries in
-    let are : rows_left c.new.result
-    ≡ rows_in (fact_kind kind) a (filter (has_key (keyer_of kind) a (prefix_of kind key) key) es) =
-    search rules in
-    λ files held.
     subst (AreOrdered (λ r s. row_order kind a r s ≡ Less))
-    (sym (are ∙ spread kind a files key es held.there held.ascending held.entries))
+    (sym (are t c
+    ∙ spread kind a files key c.args.self.now.entries held.there held.ascending held.entries))
     (ascend kind a files key held.ascending)
