@@ -868,12 +868,6 @@ one_place_cmp by sort text m n is =
     ∙ sym (ended (cut text.bytes m.span) (cut text.bytes n.span) (key_rest by sort text m)
     (key_rest by sort text n))
 
-pub one_place_key : (text : Scanned) (m n : Mention) → m.span ≡ n.span
-    → true ≡ bytes_eq (cut text.bytes m.span) (cut text.bytes n.span)
-one_place_key text m n is =
-    sym ((bytes_eq-Decides (cut text.bytes m.span) (cut text.bytes n.span)).1
-    (ap (cut text.bytes) is))
-
 pub bytes_cmp : (by : Likeness) (sort : FactKind) (text : Scanned) (m n : Mention)
     → ordering_then (slice_cmp nat_cmp (cut text.bytes m.span) (cut text.bytes n.span))
     (slice_cmp nat_cmp (key_rest by sort text m) (key_rest by sort text n))
