@@ -14,7 +14,7 @@ use Rattle.cb_index.specs.declared.entry.Shown.{Shown}
 use Rattle.cb_index.proofs.InOrderLemmas.{in_order_cong}
 use Rattle.cb_index.proofs.FrontLemmas.{get_or_front, get_or_left, slice_get_front, slice_get_left}
 use Rattle.cb_index.proofs.TextLemmas.{same_text}
-use Rattle.cb_desk.specs.declared.places.NumberedPlace.{NumberedPlace}
+use Rattle.cb_desk.specs.declared.places.FileLine.{FileLine}
 use Rattle.cb_desk.specs.Timeline.{IsValidTimeline}
 use Rattle.cb_desk.specs.Turns.{touched}
 use Rattle.cb_desk.specs.steps.Records.{AreThere, Fits, IsFew, IsTurn, Kept, KeepsRooms, Numbered}
@@ -65,7 +65,7 @@ module _ (a b : Archived) (n v : ℕ) (agree : Agree a b n v) where
   abbrev pub Below : Shown → Type 0
   Below s = (s.name < n) × (s.version < v)
 
-  abbrev pub Named : NumberedPlace → Type 0
+  abbrev pub Named : FileLine → Type 0
   Named p = p.name < n
 
   -- ---- what numbers stand for
@@ -75,7 +75,7 @@ module _ (a b : Archived) (n v : ℕ) (agree : Agree a b n v) where
       λ i. record { name = agree.names s.name all.0.0 i; bytes = agree.bytes s.version all.0.1 i }
       ∷ files_same ss all.1 i
 
-  pub places_same : (ps : List NumberedPlace) → AllByRecursion Named ps
+  pub places_same : (ps : List FileLine) → AllByRecursion Named ps
       → map (place_in b) ps ≡ map (place_in a) ps
   places_same [] all = refl
   places_same (p ∷ ps) all = λ i.
@@ -120,10 +120,10 @@ module _ (a b : Archived) (n v : ℕ) (agree : Agree a b n v) where
         all_implied (λ (s : Shown). (s.name < w.names) × (s.version < w.versions)) Below
         (λ s is. (omega (arith, is.0, few), omega (arith, is.1, low))) w.shown there.shown
 
-    pub below_places : (ps : List NumberedPlace)
-        → AllByRecursion (λ (p : NumberedPlace). p.name < w.names) ps → AllByRecursion Named ps
+    pub below_places : (ps : List FileLine)
+        → AllByRecursion (λ (p : FileLine). p.name < w.names) ps → AllByRecursion Named ps
     below_places ps all =
-        all_implied (λ (p : NumberedPlace). p.name < w.names) Named
+        all_implied (λ (p : FileLine). p.name < w.names) Named
         (λ p is. omega (arith, is, few)) ps all
 
     pub world_same : world_in b w ≡ world_in a w

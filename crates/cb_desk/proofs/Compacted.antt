@@ -10,7 +10,7 @@ use Rattle.cb_index.specs.Files.{IsThere, call_count, def_count, files_of, total
 use Rattle.cb_index.specs.Scanned.{Scanned}
 use Rattle.cb_index.specs.Shelved.{Shelved}
 use Rattle.cb_index.specs.declared.entry.Shown.{Shown}
-use Rattle.cb_desk.specs.declared.places.NumberedPlace.{NumberedPlace}
+use Rattle.cb_desk.specs.declared.places.FileLine.{FileLine}
 use Rattle.cb_desk.specs.Timeline.{IsValidTimeline, forgotten}
 use Rattle.cb_desk.specs.steps.Compacted.{IsCompacted}
 use Rattle.cb_desk.specs.steps.Records.{AreThere, Fits, Kept, KeepsRooms, Numbered, Rooms, place_in}
@@ -40,10 +40,10 @@ module _ (k : Kept) (s t : Shelved) (is : IsKept k.rooms k.archive k.now)
   abbrev now_then : Numbered
   now_then = now_with (length t.archive.texts)
 
-  places_then : (ps : List NumberedPlace)
+  places_then : (ps : List FileLine)
       → map (place_in t.archive) ps ≡ map (place_in s.archive) ps
   places_then ps =
-      ap (λ ns. map (λ (p : NumberedPlace).
+      ap (λ ns. map (λ (p : FileLine).
       record { file = slice_index_or ns p.name []; line = p.line }) ps)
       same.names
 

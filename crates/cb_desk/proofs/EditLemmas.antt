@@ -2,7 +2,7 @@
 use Rattle.std.proofs.Common.{◌≡◌, ◌∙◌, sym, ap, refl, ℕ, suc, ◌+◌, Bool, true, false, List, []}
 use Rattle.std.proofs.Common.{◌∷◌, ◌++◌, ◌≤◌, length, drop, arith, append-nil, append_assoc}
 use Rattle.cb_desk.specs.declared.edits.Edit.{Edit}
-use Rattle.cb_desk.specs.declared.places.NumberedPlace.{NumberedPlace}
+use Rattle.cb_desk.specs.declared.places.FileLine.{FileLine}
 use Rattle.cb_desk.specs.steps.Edits.{Begins, IsEachDifference, edited_each, turned_each}
 
 -- edits after so many more places that stay
@@ -22,7 +22,7 @@ raised_more n (e ∷ es) =
     ap (λ k. record e { kept = k } ∷ es) m
 
 -- a place that both lists begin with stays
-pub edited_after : (p : NumberedPlace) (es : List Edit) (ps : List NumberedPlace)
+pub edited_after : (p : FileLine) (es : List Edit) (ps : List FileLine)
     → edited_each (raised 1 es) (p ∷ ps) ≡ p ∷ edited_each es ps
 edited_after p [] ps = refl
 edited_after p (e ∷ es) ps =
@@ -33,7 +33,7 @@ turned_raised : (es : List Edit) → turned_each (raised 1 es) ≡ raised 1 (tur
 turned_raised [] = refl
 turned_raised (e ∷ es) = refl
 
-pub both_begin : (p : NumberedPlace) (es : List Edit) (old new : List NumberedPlace)
+pub both_begin : (p : FileLine) (es : List Edit) (old new : List FileLine)
     → IsEachDifference es old new → IsEachDifference (raised 1 es) (p ∷ old) (p ∷ new)
 both_begin p es old new d = record {
   on = edited_after p es old ∙ ap (λ ps. p ∷ ps) d.on;
@@ -43,12 +43,12 @@ both_begin p es old new d = record {
 }
 
 -- a place that is taken out, or put in, at the front
-pub taken_first : (p : NumberedPlace) (es : List Edit) (old new : List NumberedPlace)
+pub taken_first : (p : FileLine) (es : List Edit) (old new : List FileLine)
     → IsEachDifference es old new
     → IsEachDifference (record { kept = 0; place = p; is_put = false } ∷ es) (p ∷ old) new
 taken_first p es old new d = record { on = d.on; back = ap (λ ps. p ∷ ps) d.back }
 
-pub put_first : (p : NumberedPlace) (es : List Edit) (old new : List NumberedPlace)
+pub put_first : (p : FileLine) (es : List Edit) (old new : List FileLine)
     → IsEachDifference es old new
     → IsEachDifference (record { kept = 0; place = p; is_put = true } ∷ es) old (p ∷ new)
 put_first p es old new d = record { on = ap (λ ps. p ∷ ps) d.on; back = d.back }
@@ -56,16 +56,16 @@ put_first p es old new d = record { on = ap (λ ps. p ∷ ps) d.on; back = d.bac
 -- ---- the edits of a difference, step by step
 
 -- what follows is a difference of what is left
-abbrev pub Goes : (made : List Edit) (kept : ℕ) (olds news old new : List NumberedPlace) → Type 0
+abbrev pub Goes : (made : List Edit) (kept : ℕ) (olds news old new : List FileLine) → Type 0
 Goes made kept olds news old new =
     (es : List Edit) → IsEachDifference es olds news
     → IsEachDifference (made ++ raised kept es) old new
 
-pub goes_first : (old new : List NumberedPlace) → Goes [] 0 old new old new
+pub goes_first : (old new : List FileLine) → Goes [] 0 old new old new
 goes_first old new es d = rw (raised_none es) d
 
-pub goes_kept : (made : List Edit) (kept : ℕ) (p : NumberedPlace)
-    (olds news old new : List NumberedPlace)
+pub goes_kept : (made : List Edit) (kept : ℕ) (p : FileLine)
+    (olds news old new : List FileLine)
     → Begins p olds → Begins p news → Goes made kept olds news old new
     → Goes made (kept + 1) (drop 1 olds) (drop 1 news) old new
 goes_kept made kept p olds news old new o n goes es d =
@@ -74,7 +74,7 @@ goes_kept made kept p olds news old new o n goes es d =
     rw (raised_more kept es) at (goes (raised 1 es) later)
 
 -- one edit more
-one_more : (made : List Edit) (kept : ℕ) (p : NumberedPlace) (b : Bool) (es : List Edit)
+one_more : (made : List Edit) (kept : ℕ) (p : FileLine) (b : Bool) (es : List Edit)
     → made ++ raised kept (record { kept = 0; place = p; is_put = b } ∷ es)
     ≡ (made ++ record { kept = kept; place = p; is_put = b } ∷ []) ++ raised 0 es
 one_more made kept p b es =
@@ -83,8 +83,8 @@ one_more made kept p b es =
     ∙ ap (λ xs. made ++ record { kept = kept; place = p; is_put = b } ∷ xs) (sym (raised_none es))
     ∙ sym (append_assoc made (record { kept = kept; place = p; is_put = b } ∷ []) (raised 0 es))
 
-pub goes_taken : (made : List Edit) (kept : ℕ) (p : NumberedPlace)
-    (olds news old new : List NumberedPlace)
+pub goes_taken : (made : List Edit) (kept : ℕ) (p : FileLine)
+    (olds news old new : List FileLine)
     → Begins p olds → Goes made kept olds news old new
     → Goes (made ++ record { kept = kept; place = p; is_put = false } ∷ []) 0
     (drop 1 olds) news old new
@@ -93,8 +93,8 @@ goes_taken made kept p olds news old new o goes es d =
     rw o (taken_first p es (drop 1 olds) news d) in
     rw (one_more made kept p false es) at (goes _ later)
 
-pub goes_put : (made : List Edit) (kept : ℕ) (p : NumberedPlace)
-    (olds news old new : List NumberedPlace)
+pub goes_put : (made : List Edit) (kept : ℕ) (p : FileLine)
+    (olds news old new : List FileLine)
     → Begins p news → Goes made kept olds news old new
     → Goes (made ++ record { kept = kept; place = p; is_put = true } ∷ []) 0 olds
     (drop 1 news) old new
@@ -103,12 +103,12 @@ goes_put made kept p olds news old new n goes es d =
     rw n (put_first p es olds (drop 1 news) d) in
     rw (one_more made kept p true es) at (goes _ later)
 
-pub goes_last : (made : List Edit) (kept : ℕ) (olds news old new : List NumberedPlace)
+pub goes_last : (made : List Edit) (kept : ℕ) (olds news old new : List FileLine)
     → IsEachDifference [] olds news → Goes made kept olds news old new
     → IsEachDifference made old new
 goes_last made kept olds news old new d goes = rw (append-nil made) at (goes [] d)
 
-pub shorter : (p : NumberedPlace) (kept most : ℕ) (ps : List NumberedPlace) → Begins p ps
+pub shorter : (p : FileLine) (kept most : ℕ) (ps : List FileLine) → Begins p ps
     → kept + length ps ≤ most → kept + 1 + length (drop 1 ps) ≤ most
 shorter p kept most [] b h = cc
 shorter p kept most (q ∷ ps) b h = omega (arith, h)

@@ -17,7 +17,7 @@ use Rattle.cb_index.specs.declared.entry.Shown.{Shown}
 use Rattle.cb_index.proofs.InOrderLemmas.{map_in_order}
 use Rattle.cb_index.proofs.AscendLemmas.{ascending_sorted}
 use Rattle.cb_index.proofs.ListedLemmas.{ascending_apart, ascending_in_order, other_turned}
-use Rattle.cb_desk.specs.declared.places.NumberedPlace.{NumberedPlace}
+use Rattle.cb_desk.specs.declared.places.FileLine.{FileLine}
 use Rattle.cb_desk.specs.Files.{loaded, reloaded, renamed, unloaded, with_file}
 use Rattle.cb_desk.specs.Places.{is_in, renamed_place, renamed_places, without_places}
 use Rattle.cb_desk.specs.World.{File, Place, has_file, place_key}
@@ -37,8 +37,8 @@ use Rattle.cb_desk.proofs.ShownMoves.{order_more, others, shows_none, shows_one,
 use Rattle.cb_desk.proofs.TurnLemmas.{few_small}
 use Rattle.cb_desk.proofs.Valid.{all-filter, all-join}
 
-abbrev pub Places : List NumberedPlace → ℕ → Type 0
-Places ps n = AllByRecursion (λ (p : NumberedPlace). p.name < n) ps
+abbrev pub Places : List FileLine → ℕ → Type 0
+Places ps n = AllByRecursion (λ (p : FileLine). p.name < n) ps
 
 -- ---- an archive that has what is new behind what the present world uses
 module _ (k : Kept) (p : Planned) (kept : IsKept k.rooms k.archive k.now)
@@ -120,7 +120,7 @@ module _ (k : Kept) (p : Planned) (kept : IsKept k.rooms k.archive k.now)
       split true y e = cc
       split false y e = (refl, e)
 
-  module _ (marks frames : List NumberedPlace) (fs : List File) (next : Option (List ℕ))
+  module _ (marks frames : List FileLine) (fs : List File) (next : Option (List ℕ))
       (ms gs : List Place)
       (hides : Hides a k.now.shown p.turn.hides)
       (shows : Shows a (without p.turn.hides k.now.shown) p.turn.shows)
@@ -201,11 +201,11 @@ module _ (k : Kept) (p : Planned) (kept : IsKept k.rooms k.archive k.now)
     }
 
   -- places of the present world are the same places in it
-  pub same_places : (ps : List NumberedPlace) → Places ps n
+  pub same_places : (ps : List FileLine) → Places ps n
       → map (place_in a) ps ≡ map (place_in k.archive) ps
   same_places ps named = places_same k.archive a n v agree ps named
 
-  same_without : (name : List ℕ) (ps : List NumberedPlace) → Places ps n
+  same_without : (name : List ℕ) (ps : List FileLine) → Places ps n
       → map (place_in a) (places_without k.archive name ps)
       ≡ without_places name (map (place_in k.archive) ps)
   same_without name ps named =
@@ -351,9 +351,9 @@ module _ (k : Kept) (p : Planned) (name text : List ℕ) (kept : IsKept k.rooms 
       (same_places k planned_load kept ascending a keeps k.now.marks kept.there.marks)
       (same_places k planned_load kept ascending a keeps k.now.frames kept.there.frames)
     where
-      more_named : (ps : List NumberedPlace) → Places ps k.now.names → Places ps number
-      more_named ps all = all_implied (λ (q : NumberedPlace). q.name < k.now.names)
-          (λ (q : NumberedPlace). q.name < number) (λ q is. omega (arith, is, one_name)) ps all
+      more_named : (ps : List FileLine) → Places ps k.now.names → Places ps number
+      more_named ps all = all_implied (λ (q : FileLine). q.name < k.now.names)
+          (λ (q : FileLine). q.name < number) (λ q is. omega (arith, is, one_name)) ps all
 
   pub load_planned : IsPlan k p (loaded (world_in k.archive k.now) name text)
   load_planned =
@@ -477,7 +477,7 @@ module _ (k : Kept) (p : Planned) (h : Shown) (new_bytes : List ℕ) (marks fram
   abbrev moved : Shown
   moved = record { name = k.now.names; version = h.version }
 
-  abbrev renumber : NumberedPlace → NumberedPlace
+  abbrev renumber : FileLine → FileLine
   renumber = renumbered k.archive old_bytes k.now.names
 
   abbrev planned_rename : Planned
@@ -517,7 +517,7 @@ module _ (k : Kept) (p : Planned) (h : Shown) (new_bytes : List ℕ) (marks fram
     then_still m below = ap (λ b. cond b new_bytes (name_of k.archive m))
         (number_below m k.now.names below) ∙ sym (still m below)
 
-    all_named : (ps : List NumberedPlace) → Places ps k.now.names → Places (map renumber ps) number
+    all_named : (ps : List FileLine) → Places ps k.now.names → Places (map renumber ps) number
     all_named [] all = tt
     all_named (q ∷ ps) all = (
       elim (is_of k.archive old_bytes q) as
@@ -526,8 +526,8 @@ module _ (k : Kept) (p : Planned) (h : Shown) (new_bytes : List ℕ) (marks fram
       all_named ps all.1,
     )
 
-    all_keys : (ps : List NumberedPlace) → Places ps k.now.names
-        → AllByRecursion (λ (q : NumberedPlace). key_then k.archive k.now.names new_bytes q
+    all_keys : (ps : List FileLine) → Places ps k.now.names
+        → AllByRecursion (λ (q : FileLine). key_then k.archive k.now.names new_bytes q
         ≡ place_key (place_in a q)) (map renumber ps)
     all_keys [] all = tt
     all_keys (q ∷ ps) all = (
@@ -542,7 +542,7 @@ module _ (k : Kept) (p : Planned) (h : Shown) (new_bytes : List ℕ) (marks fram
       all_keys ps all.1,
     )
 
-    all_places : (ps : List NumberedPlace) → Places ps k.now.names
+    all_places : (ps : List FileLine) → Places ps k.now.names
         → map (place_in a) (map renumber ps)
         ≡ renamed_places old_bytes new_bytes (map (place_in k.archive) ps)
     all_places [] all = refl

@@ -8,7 +8,7 @@ use Rattle.bstr.specs.Text.{lines_of}
 use Rattle.cb_index.specs.Archived.{Archived}
 use Rattle.cb_index.specs.Files.{file_of, files_of}
 use Rattle.cb_index.specs.declared.entry.Shown.{Shown}
-use Rattle.cb_desk.specs.declared.places.NumberedPlace.{NumberedPlace}
+use Rattle.cb_desk.specs.declared.places.FileLine.{FileLine}
 use Rattle.cb_desk.specs.Desk.{is_marked, new_texts}
 use Rattle.cb_desk.specs.Marks.{is_too_large, marked_lines, replaced_file, replaced_files}
 use Rattle.cb_desk.specs.Places.{is_in}
@@ -54,7 +54,7 @@ not_large : (most n : ℕ) → n ≤ most → nat_lt most n ≡ false
 not_large most n small = grind (arith, small)
 
 -- ---- in numbers
-module _ (a : Archived) (marks : List NumberedPlace) (old new : List ℕ) where
+module _ (a : Archived) (marks : List FileLine) (old new : List ℕ) where
   pub then_replaced : (ss : List Shown) → files_then a marks old new ss
       ≡ map (replaced_file old new (places_in a marks)) (files_of a ss)
   then_replaced [] = refl

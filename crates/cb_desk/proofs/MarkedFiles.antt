@@ -10,7 +10,7 @@ use Rattle.cb_scan.specs.Order.{AreOrdered}
 use Rattle.cb_index.specs.Archived.{Archived, name_of}
 use Rattle.cb_index.specs.Files.{AreAscending, file_of}
 use Rattle.cb_index.specs.declared.entry.Shown.{Shown}
-use Rattle.cb_desk.specs.declared.places.NumberedPlace.{NumberedPlace}
+use Rattle.cb_desk.specs.declared.places.FileLine.{FileLine}
 use Rattle.cb_desk.specs.Places.{is_in}
 use Rattle.cb_desk.specs.World as world
 use Rattle.cb_desk.specs.World.{is_named}
@@ -99,11 +99,11 @@ module _ (a : Archived) where
       (other, above_unnamed name ss (above_all name s ss less up.0))
 
   -- ---- marks
-  abbrev later : List ℕ → List NumberedPlace → List NumberedPlace
+  abbrev later : List ℕ → List FileLine → List FileLine
   later name ms = drop (prefix_len (is_here a name) ms) ms
 
   -- the marks in the file of a name are none of a file with another name
-  skipped : (name : List ℕ) (ms : List NumberedPlace) (s : Shown) → IsOther name s
+  skipped : (name : List ℕ) (ms : List FileLine) (s : Shown) → IsOther name s
       → has_mark a ms s ≡ has_mark a (later name ms) s
   skipped name [] s other = refl
   skipped name (m ∷ ms) s other = by_test (is_here a name m) refl (skipped name ms s other)
@@ -118,7 +118,7 @@ module _ (a : Archived) where
           (sym (one_more a name (prefix_len (is_here a name) ms))))
       by_test false is rest = rw is refl
 
-  skipped_all : (name : List ℕ) (ms : List NumberedPlace) (ss : List Shown)
+  skipped_all : (name : List ℕ) (ms : List FileLine) (ss : List Shown)
       → AllByRecursion (IsOther name) ss
       → filter (has_mark a ms) ss ≡ filter (has_mark a (later name ms)) ss
   skipped_all name ms [] all = refl
@@ -127,7 +127,7 @@ module _ (a : Archived) where
       λ i. cond (skipped name ms s all.0 i) (s ∷ rest i) (rest i)
 
   -- files below that of the first mark have none
-  below_unmarked : (m : NumberedPlace) (ms : List NumberedPlace) (s : Shown)
+  below_unmarked : (m : FileLine) (ms : List FileLine) (s : Shown)
       → world.AreAscending (places_in a (m ∷ ms))
       → Below (name_of a m.name) s → has_mark a (m ∷ ms) s ≡ false
   unfolding IsStrictlySortedBy
@@ -138,7 +138,7 @@ module _ (a : Archived) where
         all_out a (name_of a s.name) m ms less up.0,
       )
 
-  passed : (m : NumberedPlace) (ms : List NumberedPlace) (ss : List Shown) (i : ℕ)
+  passed : (m : FileLine) (ms : List FileLine) (ss : List Shown) (i : ℕ)
       → world.AreAscending (places_in a (m ∷ ms))
       → AllWithin (Below (name_of a m.name)) ss 0 i
       → filter (has_mark a (m ∷ ms)) ss ≡ filter (has_mark a (m ∷ ms)) (drop i ss)
@@ -150,7 +150,7 @@ module _ (a : Archived) where
       ∙ passed m ms ss i up (λ k d low high. below (suc k) d (omega arith) (omega (arith, high)))
 
   -- ---- a step
-  module _ (m : NumberedPlace) (ms : List NumberedPlace)
+  module _ (m : FileLine) (ms : List FileLine)
       (marks_up : world.AreAscending (places_in a (m ∷ ms))) (ss : List Shown)
       (up : AreAscending a ss) (i : ℕ)
       (before : AllWithin (Below (name_of a m.name)) ss 0 i) where
@@ -193,7 +193,7 @@ module _ (a : Archived) where
       → AreAscending a here
   files_on ss here i is up = subst (AreAscending a) (sym is) (files_after ss i up)
 
-  pub marks_on : (ms left : List NumberedPlace) (i : ℕ) → left ≡ drop i ms
+  pub marks_on : (ms left : List FileLine) (i : ℕ) → left ≡ drop i ms
       → world.AreAscending (places_in a ms) → world.AreAscending (places_in a left)
   marks_on ms left i is up =
       subst (λ l. world.AreAscending (places_in a l)) (sym is) (ascend_after a [] ms i up)
@@ -210,9 +210,9 @@ module _ (a : Archived) where
       [ true ↦ (all-filter _ p ss up.0, some_ascend p ss up.1) | false ↦ some_ascend p ss up.1 ]
 
   -- ---- a step in the words of the code
-  module _ (ms : List NumberedPlace) (ss : List Shown)
+  module _ (ms : List FileLine) (ss : List Shown)
       (marks_up : world.AreAscending (places_in a ms)) (up : AreAscending a ss)
-      (m : NumberedPlace) (rest : List NumberedPlace) (split : ms ≡ m ∷ rest) (name : List ℕ)
+      (m : FileLine) (rest : List FileLine) (split : ms ≡ m ∷ rest) (name : List ℕ)
       (named : name ≡ name_of a m.name)
       (i k : ℕ) (before : AllWithin (Below name) ss 0 i)
       (after : AllWithin (NotBelow name) ss i (length ss))
@@ -231,7 +231,7 @@ module _ (a : Archived) where
         ap (λ n. drop n ms) count
         ∙ (λ j. drop (prefix_len (is_here a (named j)) (split j)) (split j))
 
-    pub found_is : (s : Shown) (more here : List Shown) (left : List NumberedPlace)
+    pub found_is : (s : Shown) (more here : List Shown) (left : List FileLine)
         → here ≡ drop i ss → left ≡ drop k ms → IsFirst a name s more here
         → filter (has_mark a ms) ss ≡ s ∷ filter (has_mark a left) more
     found_is s more here left here_is left_is is =
@@ -241,7 +241,7 @@ module _ (a : Archived) where
         (subst (IsFirst a name s more) here_is is))
         ∙ ap (λ l. s ∷ filter (has_mark a l) more) (sym (left_is ∙ dropped))
 
-    pub passed_is : (here : List Shown) (left : List NumberedPlace) → here ≡ drop i ss
+    pub passed_is : (here : List Shown) (left : List FileLine) → here ≡ drop i ss
         → left ≡ drop k ms → IsNotFirst a name here
         → filter (has_mark a ms) ss ≡ filter (has_mark a left) here
     passed_is here left here_is left_is other =
@@ -255,7 +255,7 @@ module _ (a : Archived) where
   no_files (s ∷ ss) = no_files ss
 
   -- without marks no file has one
-  pub none_left : (ms : List NumberedPlace) (ss : List Shown) → length ms ≡ 0
+  pub none_left : (ms : List FileLine) (ss : List Shown) → length ms ≡ 0
       → filter (has_mark a ms) ss ≡ []
   none_left [] ss none = no_files ss
   none_left (m ∷ ms) ss none = absurd (omega (arith, none))

@@ -11,7 +11,7 @@ use Rattle.std.specs.List.{AllByRecursion, AllWithin, prefix_len}
 use Rattle.std.specs.List.Sorted.{IsPartitionedBy, IsStrictlySortedBy}
 use Rattle.std.specs.Ordering.{ordering_then}
 use Rattle.cb_index.specs.Archived.{Archived, name_of}
-use Rattle.cb_desk.specs.declared.places.NumberedPlace.{NumberedPlace}
+use Rattle.cb_desk.specs.declared.places.FileLine.{FileLine}
 use Rattle.cb_desk.specs.Marks.{marked_lines}
 use Rattle.cb_desk.specs.Places.{is_in}
 use Rattle.cb_desk.specs.World.{AreAscending, Place, place_key}
@@ -141,16 +141,16 @@ all_from P (x ∷ xs) (suc i) all =
 
 module _ (a : Archived) (name : List ℕ) where
   -- the file of a mark is below the name
-  abbrev pub is_below : NumberedPlace → Bool
+  abbrev pub is_below : FileLine → Bool
   is_below m = is_lt (slice_cmp nat_cmp (name_of a m.name) name)
 
-  abbrev pub is_here : NumberedPlace → Bool
+  abbrev pub is_here : FileLine → Bool
   is_here m = is_in name (place_in a m)
 
   abbrev Later : Place → Place → Type 0
   Later p q = slice_cmp nat_cmp (place_key p) (place_key q) ≡ Less
 
-  all_at : (P : Place → Type 0) (ms : List NumberedPlace) (j : ℕ) (d : NumberedPlace)
+  all_at : (P : Place → Type 0) (ms : List FileLine) (j : ℕ) (d : FileLine)
       → AllByRecursion P (places_in a ms) → j < length ms
       → P (place_in a (get_or ms j d))
   all_at P [] j d all within = absurd (omega (arith, within))
@@ -158,7 +158,7 @@ module _ (a : Archived) (name : List ℕ) where
   all_at P (m ∷ ms) (suc j) d all within = all_at P ms j d all.1 (omega (arith, within))
 
   -- those below the name come first
-  pub marks_parted : (ms : List NumberedPlace) → AreAscending (places_in a ms)
+  pub marks_parted : (ms : List FileLine) → AreAscending (places_in a ms)
       → IsPartitionedBy is_below ms
   unfolding IsStrictlySortedBy
   marks_parted [] up i j d le within is = absurd (omega (arith, within))
@@ -172,7 +172,7 @@ module _ (a : Archived) (name : List ℕ) where
       marks_parted ms up.1 i j d (omega (arith, le)) (omega (arith, within)) is
 
   -- none of them is in the file
-  none_before : (ms : List NumberedPlace) (i : ℕ) → AllWithin (λ m. is_below m ≡ true) ms 0 i
+  none_before : (ms : List FileLine) (i : ℕ) → AllWithin (λ m. is_below m ≡ true) ms 0 i
       → i ≤ length ms
       → filter (is_in name) (places_in a ms) ≡ filter (is_in name) (places_in a (drop i ms))
   none_before ms zero below within = refl
@@ -186,14 +186,14 @@ module _ (a : Archived) (name : List ℕ) where
       ∙ none_before ms i (λ k d low high. below (suc k) d (omega arith) (omega (arith, high)))
       (omega (arith, within))
 
-  pub ascend_after : (ms : List NumberedPlace) (i : ℕ) → AreAscending (places_in a ms)
+  pub ascend_after : (ms : List FileLine) (i : ℕ) → AreAscending (places_in a ms)
       → AreAscending (places_in a (drop i ms))
   unfolding IsStrictlySortedBy
   ascend_after ms zero up = up
   ascend_after [] (suc i) up = up
   ascend_after (m ∷ ms) (suc i) up = ascend_after ms i up.1
 
-  pub all_out : (m : NumberedPlace) (ms : List NumberedPlace)
+  pub all_out : (m : FileLine) (ms : List FileLine)
       → slice_cmp nat_cmp name (name_of a m.name) ≡ Less
       → AllByRecursion (Later (place_in a m)) (places_in a ms)
       → AllByRecursion (λ q. is_in name q ≡ false) (places_in a ms)
@@ -209,21 +209,21 @@ module _ (a : Archived) (name : List ℕ) where
   one_more n = omega arith
 
   -- those at the front that are in the file are all of them
-  at_front : (ms : List NumberedPlace) → AreAscending (places_in a ms)
+  at_front : (ms : List FileLine) → AreAscending (places_in a ms)
       → AllByRecursion (λ m. is_below m ≡ false) ms
-      → map (λ (m : NumberedPlace). m.line) (take (prefix_len is_here ms) ms)
+      → map (λ (m : FileLine). m.line) (take (prefix_len is_here ms) ms)
       ≡ marked_lines name (places_in a ms)
   unfolding IsStrictlySortedBy
   at_front [] up above = refl
   at_front (m ∷ ms) up above = by_test (is_here m) refl (at_front ms up.1 above.1)
     where
       by_test : (b : Bool) → is_here m ≡ b
-          → map (λ (m : NumberedPlace). m.line) (take (prefix_len is_here ms) ms)
+          → map (λ (m : FileLine). m.line) (take (prefix_len is_here ms) ms)
           ≡ marked_lines name (places_in a ms)
-          → map (λ (m : NumberedPlace). m.line) (take (prefix_len is_here (m ∷ ms)) (m ∷ ms))
+          → map (λ (m : FileLine). m.line) (take (prefix_len is_here (m ∷ ms)) (m ∷ ms))
           ≡ marked_lines name (places_in a (m ∷ ms))
       by_test true is later =
-          rw is (ap (λ n. map (λ (m : NumberedPlace). m.line) (take n (m ∷ ms)))
+          rw is (ap (λ n. map (λ (m : FileLine). m.line) (take n (m ∷ ms)))
           (one_more (prefix_len is_here ms))
           ∙ ap (λ l. m.line ∷ l) later)
       by_test false is later =
@@ -233,11 +233,11 @@ module _ (a : Archived) (name : List ℕ) where
           (sym (none_left name (places_in a ms) (all_out m ms higher up.0))))
 
   -- the marks of the file
-  module _ (ms : List NumberedPlace) (up : AreAscending (places_in a ms)) (i : ℕ)
+  module _ (ms : List FileLine) (up : AreAscending (places_in a ms)) (i : ℕ)
       (within : i ≤ length ms)
       (before : AllWithin (λ m. is_below m ≡ true) ms 0 i)
       (after : AllWithin (λ m. is_below m ≡ false) ms i (length ms)) where
-    pub lines_found : map (λ (m : NumberedPlace). m.line)
+    pub lines_found : map (λ (m : FileLine). m.line)
         (take (prefix_len is_here (drop i ms)) (drop i ms)) ≡ marked_lines name (places_in a ms)
     lines_found =
         at_front (drop i ms) (ascend_after ms i up) (all_from (λ m. is_below m ≡ false) ms i after)

@@ -13,7 +13,7 @@ use Rattle.cb_index.specs.declared.entry.Shown.{Shown}
 use Rattle.cb_index.proofs.AscendLemmas.{ascending_sorted}
 use Rattle.cb_index.proofs.ListedLemmas.{ascending_apart}
 use Rattle.cb_desk.specs.declared.edits.Edit.{Edit}
-use Rattle.cb_desk.specs.declared.places.NumberedPlace.{NumberedPlace}
+use Rattle.cb_desk.specs.declared.places.FileLine.{FileLine}
 use Rattle.std.proofs.lemmas.List.{length-map}
 use Rattle.cb_desk.specs.Stack.{popped}
 use Rattle.cb_desk.specs.declared.renaming.Renaming.{Renaming}
@@ -29,7 +29,7 @@ use Rattle.cb_desk.proofs.ArchiveMoves.{Agree, agree_kept, apart_same, below_sho
 use Rattle.cb_desk.proofs.ArchiveMoves.{order_same, places_same}
 
 -- ---- the length of an edited list
-each_length : (es : List Edit) (ps : List NumberedPlace)
+each_length : (es : List Edit) (ps : List FileLine)
     → length (edited_each es ps) ≤ length ps + length es
 each_length [] ps = omega arith
 each_length (e ∷ es) ps =
@@ -48,15 +48,15 @@ each_length (e ∷ es) ps =
           omega (arith, here, taken, fewer, all)
     ]
   where
-    parts : (n : ℕ) (xs : List NumberedPlace) → length (take n xs) + length (drop n xs) ≡ length xs
+    parts : (n : ℕ) (xs : List FileLine) → length (take n xs) + length (drop n xs) ≡ length xs
     parts n xs = sym (length-append (take n xs) (drop n xs)) ∙ ap length (take-append-drop n xs)
 
-    drop_one : (xs : List NumberedPlace) → length (drop 1 xs) ≤ length xs
+    drop_one : (xs : List FileLine) → length (drop 1 xs) ≤ length xs
     drop_one [] = omega arith
     drop_one (x ∷ xs) = omega arith
 
 -- a renamed list is as long
-pub renamed_length : (r : Renaming) (ps : List NumberedPlace) → length (renamed r ps) ≡ length ps
+pub renamed_length : (r : Renaming) (ps : List FileLine) → length (renamed r ps) ≡ length ps
 renamed_length r ps =
     let qs = map (with_number r) ps in
     let all = parts r.end qs in
@@ -72,10 +72,10 @@ renamed_length r ps =
     let same = length-map ps (with_number r) in
     omega (arith, all, front, range, one, two, three, same)
   where
-    parts : (n : ℕ) (xs : List NumberedPlace) → length (take n xs) + length (drop n xs) ≡ length xs
+    parts : (n : ℕ) (xs : List FileLine) → length (take n xs) + length (drop n xs) ≡ length xs
     parts n xs = sym (length-append (take n xs) (drop n xs)) ∙ ap length (take-append-drop n xs)
 
-pub edited_length : (es : Edits) (ps : List NumberedPlace)
+pub edited_length : (es : Edits) (ps : List FileLine)
     → length (edited es ps) ≤ length ps + more es
 edited_length (each es) ps = each_length es ps
 edited_length (both old new) ps = omega arith
@@ -228,7 +228,7 @@ module _ (k : Kept) (p : Planned) (wanted : Option (Option (List ℕ))) (marks f
 
 -- the world without its top frame
 module _ (a : Archived) where
-  taken_places : (n : ℕ) (ps : List NumberedPlace)
+  taken_places : (n : ℕ) (ps : List FileLine)
       → map (place_in a) (take n ps) ≡ take n (map (place_in a) ps)
   taken_places zero ps = refl
   taken_places (suc n) [] = refl

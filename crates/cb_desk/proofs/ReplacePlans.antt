@@ -19,7 +19,7 @@ use Rattle.cb_index.specs.Compact.{shows_version}
 use Rattle.cb_index.specs.Files.{AreAscending, file_of, files_of, shown_name}
 use Rattle.cb_index.specs.declared.entry.Shown.{Shown}
 use Rattle.cb_desk.specs.declared.present.replace.Renewal.{Renewal}
-use Rattle.cb_desk.specs.declared.places.NumberedPlace.{NumberedPlace}
+use Rattle.cb_desk.specs.declared.places.FileLine.{FileLine}
 use Rattle.cb_desk.specs.Marks.{replaced_files, with_files}
 use Rattle.cb_desk.specs.Places.{is_place_of}
 use Rattle.cb_desk.specs.World.{File}
@@ -95,14 +95,14 @@ count_renewals n [] = refl
 count_renewals n (s ∷ ss) = omega (arith, count_renewals (n + 1) ss)
 
 -- files keep their names
-names_kept : (a : Archived) (marks : List NumberedPlace) (old new : List ℕ) (ss : List Shown)
+names_kept : (a : Archived) (marks : List FileLine) (old new : List ℕ) (ss : List Shown)
     → map (λ (f : File). f.name) (files_then a marks old new ss)
     ≡ map (λ (f : File). f.name) (files_of a ss)
 names_kept a marks old new [] = refl
 names_kept a marks old new (s ∷ ss) =
     ap (λ ns. name_of a s.name ∷ ns) (names_kept a marks old new ss)
 
-module _ (b a : Archived) (n v : ℕ) (same : Agree b a n v) (marks : List NumberedPlace)
+module _ (b a : Archived) (n v : ℕ) (same : Agree b a n v) (marks : List FileLine)
     (old new : List ℕ) where
   -- the files of what is shown then are those with the replacement made
   renewed_files : (first : ℕ) (ss : List Shown) → AllByRecursion (Below b a n v same) ss

@@ -9,7 +9,7 @@ use Rattle.cb_scan.specs.Lines.{lines}
 use Rattle.cb_index.specs.Archived.{Archived, name_of}
 use Rattle.cb_index.specs.Files.{AreAscending, file_of, files_of}
 use Rattle.cb_index.specs.declared.entry.Shown.{Shown}
-use Rattle.cb_desk.specs.declared.places.NumberedPlace.{NumberedPlace}
+use Rattle.cb_desk.specs.declared.places.FileLine.{FileLine}
 use Rattle.cb_desk.specs.Places.{is_in, is_place_of}
 use Rattle.cb_desk.specs.World.{File, IsAscending, IsPlaceOf, Place, has_file, is_named}
 use Rattle.cb_desk.specs.World.{text_of_file}
@@ -44,7 +44,7 @@ has_from : (f g : File) (b : Bool) → Some f ≡ cond b (Some g) None → b ≡
 has_from f g true is = refl
 has_from f g false is = cc
 
-module _ (a : Archived) (marks : List NumberedPlace) (old new : List ℕ) (changed : List Shown)
+module _ (a : Archived) (marks : List FileLine) (old new : List ℕ) (changed : List Shown)
     (up : AreAscending a changed) (p : Place) (name : List ℕ) (named : name ≡ p.file) (i : ℕ)
     (before : AllWithin (λ s. below (file_then a marks old new) name s ≡ true) changed 0 i)
     (after : AllWithin (λ s. below (file_then a marks old new) name s ≡ false) changed i
@@ -88,7 +88,7 @@ module _ (a : Archived) (marks : List NumberedPlace) (old new : List ℕ) (chang
       ∙ none-at (file_then a marks old new) name changed i d then_up before after other)
 
 -- ---- among all files
-module _ (a : Archived) (marks : List NumberedPlace) (old new name : List ℕ) where
+module _ (a : Archived) (marks : List FileLine) (old new name : List ℕ) where
   -- a mark is in a file of the name
   abbrev is_marked : Bool
   is_marked = list_any (is_in name) (places_in a marks)
@@ -173,7 +173,7 @@ module _ (a : Archived) (marks : List NumberedPlace) (old new name : List ℕ) w
           ap (λ (f : File). f.bytes) (unmarked_then a marks old new s (mark_by_name s e ∙ unmarked))
       by_test false e rest = rest
 
-module _ (a : Archived) (marks : List NumberedPlace) (old new : List ℕ) (shown : List Shown) where
+module _ (a : Archived) (marks : List FileLine) (old new : List ℕ) (shown : List Shown) where
   abbrev is_then : Place → Bool
   is_then p = is_place_of (files_then a marks old new shown) p
 
@@ -202,7 +202,7 @@ module _ (a : Archived) (marks : List NumberedPlace) (old new : List ℕ) (shown
           (sym (unchanged_text a marks old new p.file is shown))
 
   -- of places that are lines now, those that stay lines are those that are lines then
-  pub staying_remaining : (places : List NumberedPlace)
+  pub staying_remaining : (places : List FileLine)
       → AllByRecursion (IsPlaceOf (files_of a shown)) (map (place_in a) places)
       → staying a changed_files places ≡ remaining a (files_then a marks old new shown) places
   staying_remaining [] all = refl

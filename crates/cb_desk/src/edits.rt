@@ -7,7 +7,7 @@ ghost use Rattle.cb_desk.specs.steps.Edits.{edited, edited_each, more, turned_ea
 ghost use Rattle.cb_desk.specs.steps.Edits.{turned_edits};
 ghost use Rattle.cb_desk.specs.steps.Renamings.{LeadsBetween, is_renaming, renaming_between};
 
-use crate::places::NumberedPlace;
+use crate::places::FileLine;
 use crate::renaming::Renaming;
 use std::alloc::{AllocError, Global};
 use std::marker::Model;
@@ -19,7 +19,7 @@ use std::mem;
 #[derive(Clone, Copy, Debug)]
 pub(crate) struct Edit {
     pub(crate) kept: usize,
-    pub(crate) place: NumberedPlace,
+    pub(crate) place: FileLine,
     pub(crate) is_put: bool,
 }
 
@@ -47,7 +47,7 @@ fn turn_edits(edits: &mut [Edit])
 }
 
 /// The list without its first place, if it has one.
-fn without_first(places: &[NumberedPlace]) -> &[NumberedPlace]
+fn without_first(places: &[FileLine]) -> &[FileLine]
     ensures { result.now ≡ drop 1 places.now }
 {
     match places.split_first() {
@@ -57,7 +57,7 @@ fn without_first(places: &[NumberedPlace]) -> &[NumberedPlace]
 }
 
 /// Adds places to a list that has room for them.
-pub(crate) fn put_places(places: &[NumberedPlace], into: &mut Vec<NumberedPlace>)
+pub(crate) fn put_places(places: &[FileLine], into: &mut Vec<FileLine>)
     requires { length into.old.items + length places.now ≤ vec_capacity into.old }
     ensures items { into.new.items ≡ into.old.items ++ places.now }
     ensures room { vec_capacity into.old ≤ vec_capacity into.new }
@@ -68,7 +68,7 @@ pub(crate) fn put_places(places: &[NumberedPlace], into: &mut Vec<NumberedPlace>
 }
 
 /// Writes what edits make of a list into one that has room for it.
-fn edit_into(edits: &[Edit], places: &[NumberedPlace], into: &mut Vec<NumberedPlace>)
+fn edit_into(edits: &[Edit], places: &[FileLine], into: &mut Vec<FileLine>)
     requires { length (edited_each edits.now places.now) ≤ vec_capacity into.old }
     ensures items { into.new.items ≡ edited_each edits.now places.now }
     ensures room { vec_capacity into.old ≤ vec_capacity into.new }
@@ -94,14 +94,14 @@ enum Step {
     /// The first place of both stays.
     Keep,
     /// The first of the old places is taken out.
-    Take(NumberedPlace),
+    Take(FileLine),
     /// The first of the new places is put in.
-    Put(NumberedPlace),
+    Put(FileLine),
 }
 
 /// What is done first, if anything is left. Of two places that differ the old one is taken out if
 /// its file is gone or if more old places than new ones are left.
-fn first_step(gone: Option<u32>, olds: &[NumberedPlace], news: &[NumberedPlace]) -> Option<Step>
+fn first_step(gone: Option<u32>, olds: &[FileLine], news: &[FileLine]) -> Option<Step>
     ensures { MatchOption result (IsEachDifference [] olds.now news.now)
         (λ step. IsFirstStep step olds.now news.now) }
 {
@@ -124,8 +124,8 @@ fn first_step(gone: Option<u32>, olds: &[NumberedPlace], news: &[NumberedPlace])
 fn each_difference(
     alloc: Global,
     gone: Option<u32>,
-    old: &[NumberedPlace],
-    new: &[NumberedPlace],
+    old: &[FileLine],
+    new: &[FileLine],
 ) -> Result<Vec<Edit>, AllocError>
     ensures { IfOk result (λ edits. IsEachDifference edits.items old.now new.now) }
 {
@@ -173,11 +173,7 @@ fn one_edit(alloc: Global, edit: Edit) -> Result<Vec<Edit>, AllocError>
 }
 
 /// The edits that append a place.
-fn push_edits(
-    alloc: Global,
-    places: &[NumberedPlace],
-    place: NumberedPlace,
-) -> Result<Vec<Edit>, AllocError>
+fn push_edits(alloc: Global, places: &[FileLine], place: FileLine) -> Result<Vec<Edit>, AllocError>
     ensures { IfOk result
         (λ edits. IsEachDifference edits.items places.now (places.now ++ place ∷ [])) }
 {
@@ -193,7 +189,7 @@ fn push_edits(
 }
 
 /// The edits that take the last place out, if there is one.
-fn pop_edits(alloc: Global, places: &[NumberedPlace]) -> Result<Vec<Edit>, AllocError>
+fn pop_edits(alloc: Global, places: &[FileLine]) -> Result<Vec<Edit>, AllocError>
     ensures { IfOk result
         (λ edits. IsEachDifference edits.items places.now
         (take (length places.now - 1) places.now)) }
@@ -220,7 +216,7 @@ pub(crate) enum Way {
     /// Places put in and taken out, one by one.
     Each(Vec<Edit>),
     /// The list before and the list after.
-    Both(Vec<NumberedPlace>, Vec<NumberedPlace>),
+    Both(Vec<FileLine>, Vec<FileLine>),
     /// A file gets another number.
     Renamed(Renaming),
 }
@@ -272,7 +268,7 @@ impl PlaceEdits {
     }
 
     /// Writes what the edits make of a list into one that has room for it.
-    pub(crate) fn write_into(&self, places: &mut [NumberedPlace], into: &mut Vec<NumberedPlace>)
+    pub(crate) fn write_into(&self, places: &mut [FileLine], into: &mut Vec<FileLine>)
         requires { length (edited self.now places.old) ≤ vec_capacity into.old }
         ensures items { into.new.items ≡ edited self.now places.old }
         ensures room { vec_capacity into.old ≤ vec_capacity into.new }
@@ -293,8 +289,8 @@ impl PlaceEdits {
 pub(crate) fn difference(
     alloc: Global,
     gone: Option<u32>,
-    old: &[NumberedPlace],
-    new: &[NumberedPlace],
+    old: &[FileLine],
+    new: &[FileLine],
 ) -> Result<PlaceEdits, AllocError>
     ensures { IfOk result (λ edits. IsDifference edits old.now new.now) }
 {
@@ -319,8 +315,8 @@ pub(crate) fn renaming_difference(
     alloc: Global,
     from: u32,
     to: u32,
-    old: &[NumberedPlace],
-    new: &[NumberedPlace],
+    old: &[FileLine],
+    new: &[FileLine],
 ) -> Result<PlaceEdits, AllocError>
     ensures difference { IfOk result (λ edits. IsDifference edits old.now new.now) }
     ensures short { IfOk result (λ edits. is_renaming edits ≡ false
@@ -337,8 +333,8 @@ pub(crate) fn renaming_difference(
 /// The edits that append a place.
 pub(crate) fn pushed(
     alloc: Global,
-    places: &[NumberedPlace],
-    place: NumberedPlace,
+    places: &[FileLine],
+    place: FileLine,
 ) -> Result<PlaceEdits, AllocError>
     ensures { IfOk result
         (λ edits. IsDifference edits places.now (places.now ++ place ∷ [])) }
@@ -350,7 +346,7 @@ pub(crate) fn pushed(
 }
 
 /// The edits that take the last place out, if there is one.
-pub(crate) fn popped(alloc: Global, places: &[NumberedPlace]) -> Result<PlaceEdits, AllocError>
+pub(crate) fn popped(alloc: Global, places: &[FileLine]) -> Result<PlaceEdits, AllocError>
     ensures { IfOk result
         (λ edits. IsDifference edits places.now (take (length places.now - 1) places.now)) }
 {

@@ -5,7 +5,7 @@ ghost use Rattle.std.specs.Option.{option_map};
 ghost use Rattle.cb_desk.specs.Desk.{counted};
 ghost use Rattle.cb_desk.specs.Models.{step_of};
 ghost use Rattle.cb_desk.specs.Step.{place_of};
-ghost use Rattle.cb_desk.specs.declared.places.NumberedPlace.{NumberedPlace};
+ghost use Rattle.cb_desk.specs.declared.places.FileLine.{FileLine};
 ghost use Rattle.cb_desk.specs.steps.Records.{moves, place_in, world_in};
 ghost use Rattle.cb_desk.specs.steps.Still.{AreStill};
 ghost use Rattle.cb_desk.specs.World.{World, IsValidWorld};
@@ -15,7 +15,7 @@ ghost use Rattle.cb_desk.specs.Timeline.{redone, undone};
 ghost use Rattle.cb_desk.specs.Turns.{Turns};
 ghost use Rattle.cb_desk.specs.steps.Walks.{IsKept, next_moves, timeline_in, turns_on};
 
-use crate::places::NumberedPlace;
+use crate::places::FileLine;
 use crate::plan::{Plan, Record};
 use crate::present::Present;
 use crate::{Bounds, Change, Refusal};
@@ -85,11 +85,11 @@ impl History {
     }
 
     /// The place that a change asks for, if it asks for one and that is there.
-    pub(crate) fn place_of(&mut self, change: &Change<'_>) -> Option<NumberedPlace>
+    pub(crate) fn place_of(&mut self, change: &Change<'_>) -> Option<FileLine>
         ensures place { option_map (place_in self.new.kept.archive) result
             ≡ place_of (world_in self.new.kept.archive self.new.kept.now) (step_of change.now) }
         ensures there { MatchOption result ⊤
-            (λ (p : NumberedPlace). p.name < self.new.kept.now.names) }
+            (λ (p : FileLine). p.name < self.new.kept.now.names) }
         ensures still { AreStill self.old self.new }
     {
         self.present.place_of(change)

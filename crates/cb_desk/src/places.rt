@@ -17,7 +17,7 @@ use std::mem;
 /// A line of a file, from 1: a mark, or a frame of the tag stack. The file is told by the number of
 /// its name in the archive.
 #[derive(Clone, Copy, Debug, PartialEq, Eq)]
-pub(crate) struct NumberedPlace {
+pub(crate) struct FileLine {
     pub(crate) name: u32,
     pub(crate) line: u32,
 }
@@ -25,8 +25,8 @@ pub(crate) struct NumberedPlace {
 /// A list of places, and room for as many again, to which edits are written.
 #[derive(Drop)]
 pub(crate) struct PlaceList {
-    places: Vec<NumberedPlace>,
-    spare: Vec<NumberedPlace>,
+    places: Vec<FileLine>,
+    spare: Vec<FileLine>,
 }
 
 impl Model for PlaceList {
@@ -53,7 +53,7 @@ impl PlaceList {
     }
 
     /// The places.
-    pub(crate) fn as_slice(&self) -> &[NumberedPlace]
+    pub(crate) fn as_slice(&self) -> &[FileLine]
         ensures { result.now ≡ self.now.places }
     {
         self.places.as_slice()
@@ -100,7 +100,7 @@ impl PlaceList {
 #[derive(Drop)]
 pub struct Places<'a> {
     archive: &'a Archive,
-    rest: &'a [NumberedPlace],
+    rest: &'a [FileLine],
 }
 
 impl<'a> Model for Places<'a> {
@@ -114,7 +114,7 @@ impl<'a> Model for Places<'a> {
 }
 
 impl<'a> Places<'a> {
-    pub(crate) fn new(archive: &'a Archive, places: &'a [NumberedPlace]) -> Places<'a>
+    pub(crate) fn new(archive: &'a Archive, places: &'a [FileLine]) -> Places<'a>
         ensures { result ≡ map (place_in archive.now) places.now }
     {
         Places {

@@ -6,7 +6,7 @@ ghost use Rattle.cb_desk.specs.steps.Renamings.{LeadsBetween, count_before, coun
 ghost use Rattle.cb_desk.specs.steps.Renamings.{renaming_between};
 
 use crate::edits::put_places;
-use crate::places::NumberedPlace;
+use crate::places::FileLine;
 use std::alloc::{AllocError, Global};
 
 /// A file's number becomes another one. In the range from `start` to `end` the first `split` places
@@ -23,21 +23,21 @@ pub(crate) struct Renaming {
 }
 
 /// How many places stand before the first one of a file.
-fn count_before(places: &[NumberedPlace], name: u32) -> usize
+fn count_before(places: &[FileLine], name: u32) -> usize
     ensures { result ≡ count_before places.now name }
 {
     places.iter().take_while(|place| place.name != name).count()
 }
 
 /// How many places of a file there are.
-fn count_of(places: &[NumberedPlace], name: u32) -> usize
+fn count_of(places: &[FileLine], name: u32) -> usize
     ensures { result ≡ count_of places.now name }
 {
     places.iter().filter(|place| place.name == name).count()
 }
 
 /// Appends a list with its first places moved to its end.
-fn put_rotated(places: &[NumberedPlace], split: usize, into: &mut Vec<NumberedPlace>)
+fn put_rotated(places: &[FileLine], split: usize, into: &mut Vec<FileLine>)
     requires { length into.old.items + length places.now ≤ vec_capacity into.old }
     ensures items { into.new.items
         ≡ into.old.items ++ (drop split places.now ++ take split places.now) }
@@ -51,7 +51,7 @@ fn put_rotated(places: &[NumberedPlace], split: usize, into: &mut Vec<NumberedPl
 impl Renaming {
     /// The renaming that leads from one list to another, where the places of a file are together
     /// in each of them or are where they were.
-    fn between(from: u32, to: u32, old: &[NumberedPlace], new: &[NumberedPlace]) -> Renaming
+    fn between(from: u32, to: u32, old: &[FileLine], new: &[FileLine]) -> Renaming
         ensures { result ≡ renaming_between from to old.now new.now }
     {
         let count = count_of(old, from);
@@ -91,11 +91,11 @@ impl Renaming {
     }
 
     /// A place, in the file of the other number if it is in the one of the first.
-    fn with_number(self, place: NumberedPlace) -> NumberedPlace
+    fn with_number(self, place: FileLine) -> FileLine
         ensures { result ≡ with_number self place }
     {
         if place.name == self.from {
-            NumberedPlace {
+            FileLine {
                 name: self.to,
                 line: place.line,
             }
@@ -106,7 +106,7 @@ impl Renaming {
 
     #[tactic(auto, using(std::proofs::lemmas::List::Edits::map_over_more))]
     /// Gives all places of the file the other number.
-    fn renumber(self, places: &mut [NumberedPlace])
+    fn renumber(self, places: &mut [FileLine])
         ensures { places.new ≡ map (with_number self) places.old }
     {
         for place in places.iter_mut() {
@@ -115,7 +115,7 @@ impl Renaming {
     }
 
     /// Writes places at which the range is turned into a list that has room for them.
-    fn rotate_into(self, places: &[NumberedPlace], into: &mut Vec<NumberedPlace>)
+    fn rotate_into(self, places: &[FileLine], into: &mut Vec<FileLine>)
         requires { length places.now ≤ vec_capacity into.old }
         ensures items { into.new.items
             ≡ rotated self.start self.end self.split places.now }
@@ -130,7 +130,7 @@ impl Renaming {
     }
 
     /// Renames in a list, and writes what that makes into one that has room for it.
-    pub(crate) fn write_into(self, places: &mut [NumberedPlace], into: &mut Vec<NumberedPlace>)
+    pub(crate) fn write_into(self, places: &mut [FileLine], into: &mut Vec<FileLine>)
         requires { length places.old ≤ vec_capacity into.old }
         ensures items { into.new.items ≡ renamed self places.old }
         ensures room { vec_capacity into.old ≤ vec_capacity into.new }
@@ -140,12 +140,7 @@ impl Renaming {
     }
 
     /// Whether this makes one list from another.
-    fn leads(
-        self,
-        alloc: Global,
-        old: &[NumberedPlace],
-        new: &[NumberedPlace],
-    ) -> Result<bool, AllocError>
+    fn leads(self, alloc: Global, old: &[FileLine], new: &[FileLine]) -> Result<bool, AllocError>
         ensures { IfOk result (λ leads. IsTrue leads ↔ (renamed self old.now ≡ new.now)) }
     {
         let mut places = Vec::from_slice(alloc, old)?;
@@ -159,8 +154,8 @@ impl Renaming {
         alloc: Global,
         from: u32,
         to: u32,
-        old: &[NumberedPlace],
-        new: &[NumberedPlace],
+        old: &[FileLine],
+        new: &[FileLine],
     ) -> Result<Option<Renaming>, AllocError>
         ensures { IfOk result (λ found. MatchOption found
             (LeadsBetween (renaming_between from to old.now new.now) old.now new.now → ⊥)

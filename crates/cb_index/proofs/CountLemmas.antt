@@ -23,7 +23,7 @@ use Rattle.cb_index.specs.Shelved.{IsIndexOf}
 use Rattle.cb_index.specs.steps.Found.{fact_at, facts_at, facts_in, facts_in_text}
 use Rattle.cb_index.specs.steps.Given.{given_at, given_in, given_in_text}
 use Rattle.cb_index.specs.steps.Spread.{items_from}
-use Rattle.cb_index.specs.declared.entry.Entry.{Entry}
+use Rattle.cb_index.specs.declared.entry.Posting.{Posting}
 use Rattle.cb_index.specs.declared.entry.Shown.{Shown}
 use Rattle.cb_index.specs.declared.entry.FactKind.{FactKind}
 use Rattle.cb_index.proofs.AnyFileLemmas.{same_anywhere}
@@ -88,8 +88,8 @@ module _ (sort : FactKind) (a : Archived) (s : Shown) (text : Scanned)
   abbrev keyer : Keyer
   keyer = item_keyer sort
 
-  abbrev IsCounted : List Entry → Type 0
-  IsCounted es = sum_by (λ (e : Entry). e.rows) es ≡ length (unlike sort (facts_in sort a es))
+  abbrev IsCounted : List Posting → Type 0
+  IsCounted es = sum_by (λ (e : Posting). e.rows) es ≡ length (unlike sort (facts_in sort a es))
 
   none_counted : IsCounted []
   unfolding unlike
@@ -106,7 +106,7 @@ module _ (sort : FactKind) (a : Archived) (s : Shown) (text : Scanned)
       (unlike sort (map (fact_at sort (name_of a s.name) text) (items_from sort text item))) =
       sym (in_any_file (name_of a s.name) [] text sort (items_from sort text item)) in
       let same = ap (λ fs. length (unlike sort fs)) facts in
-      let sum = sum_by-cons (λ (e : Entry). e.rows) (entry_of s (listed sort text item)) [] in
+      let sum = sum_by-cons (λ (e : Posting). e.rows) (entry_of s (listed sort text item)) [] in
       omega (arith, count, same, sum)
 
   version_counted : IsCounted
@@ -120,7 +120,7 @@ module _ (sort : FactKind) (a : Archived) (s : Shown) (text : Scanned)
       IsCounted none_counted (λ item first. one_counted item) 0 (item_count sort text)
 
   -- ---- those that are no repeats
-  abbrev AreNew : List Entry → Type 0
+  abbrev AreNew : List Posting → Type 0
   AreNew es = given_in false sort a es ≡ unlike sort (facts_in sort a es)
 
   none_new : AreNew []
@@ -148,47 +148,47 @@ module _ (sort : FactKind) (a : Archived) (s : Shown) (text : Scanned)
 
 -- ---- all versions
 module _ (sort : FactKind) (a : Archived) (key : List ℕ) where
-  abbrev has_it : Entry → Bool
+  abbrev has_it : Posting → Bool
   has_it = has_key (item_keyer sort) a (key_prefix key) key
 
   abbrev rows : File → List Fact
   rows = file_facts a.profile sort key
 
   known : (s : Shown) (text : Scanned) → text_at a s.version ≡ Some text
-      → sum_by (λ (e : Entry). e.rows) (filter has_it (entries_of (firsts_in sort) a s))
+      → sum_by (λ (e : Posting). e.rows) (filter has_it (entries_of (firsts_in sort) a s))
       ≡ length (unlike sort (file_facts text.profile sort key
       (record { name = name_of a s.name; bytes = text.bytes })))
   known s text there =
       let same : entries_of (firsts_in sort) a s ≡ map (entry_of s) (firsts sort text) =
       ap (λ o. map (entry_of s) (firsts_in sort o)) there in
-      ap (λ es. sum_by (λ (e : Entry). e.rows) (filter has_it es)) same
+      ap (λ es. sum_by (λ (e : Posting). e.rows) (filter has_it es)) same
       ∙ version_counted sort a s text there key
       ∙ sym (ap (λ es. length (unlike sort (facts_in sort a (filter has_it es)))) same)
       ∙ ap (λ fs. length (unlike sort fs)) (one_facts a s text there key sort)
 
   all_counted : (shown : List Shown) → AllByRecursion (IsThere a) shown
-      → sum_by (λ (e : Entry). e.rows) (filter has_it (all_entries (firsts_in sort) a shown))
+      → sum_by (λ (e : Posting). e.rows) (filter has_it (all_entries (firsts_in sort) a shown))
       ≡ rows_in_files sort rows (files_of a shown)
   all_counted [] all = refl
   all_counted (s ∷ shown) all =
       let text = text_of a s.version in
       let file : File = record { name = name_of a s.name; bytes = text.bytes } in
       let here = known s text (text_there a s.version all.0.1) in
-      ap (sum_by (λ (e : Entry). e.rows)) (filter-append has_it (entries_of (firsts_in sort) a s)
+      ap (sum_by (λ (e : Posting). e.rows)) (filter-append has_it (entries_of (firsts_in sort) a s)
       (all_entries (firsts_in sort) a shown))
-      ∙ sum_by-append (λ (e : Entry). e.rows) (filter has_it (entries_of (firsts_in sort) a s))
+      ∙ sum_by-append (λ (e : Posting). e.rows) (filter has_it (entries_of (firsts_in sort) a s))
       (filter has_it (all_entries (firsts_in sort) a shown))
       ∙ (λ i. here i + all_counted shown all.1 i)
       ∙ sym (sum_by-cons (λ (f : File). length (unlike sort (rows f))) file (files_of a shown))
 
   pub facts_counted : (shown : List Shown) → AllByRecursion (IsThere a) shown → AreAscending a shown
-      → (es : List Entry)
+      → (es : List Posting)
       → IsIndexOf (item_keyer sort) (firsts_in sort) a shown es
-      → sum_by (λ (e : Entry). e.rows)
+      → sum_by (λ (e : Posting). e.rows)
       (filter (has_key (item_keyer sort) a (key_prefix key) key) es)
       ≡ rows_in_files sort (file_facts a.profile sort key) (files_of a shown)
   facts_counted shown all up es is =
-      ap (sum_by (λ (e : Entry). e.rows)) (kept_key (item_keyer sort) a (firsts_in sort)
+      ap (sum_by (λ (e : Posting). e.rows)) (kept_key (item_keyer sort) a (firsts_in sort)
       (firsts_rise sort) shown up (key_prefix key) key es is)
       ∙ all_counted shown all
 
@@ -219,7 +219,7 @@ module _ (sort : FactKind) (a : Archived) (key : List ℕ) where
       ∙ (λ i. here i ++ all_new shown all.1 i)
 
   pub facts_new : (shown : List Shown) → AllByRecursion (IsThere a) shown → AreAscending a shown
-      → (es : List Entry)
+      → (es : List Posting)
       → IsIndexOf (item_keyer sort) (firsts_in sort) a shown es
       → given_in false sort a (filter (has_key (item_keyer sort) a (key_prefix key) key) es)
       ≡ unlike_in_files sort (file_facts a.profile sort key) (files_of a shown)

@@ -25,7 +25,7 @@ use Rattle.cb_index.specs.Files.{shown_under, total}
 use Rattle.cb_index.specs.Held.{Indexed, Lister, all_entries, entries_of}
 use Rattle.cb_index.specs.Names.{AreSingle, is_among}
 use Rattle.cb_index.specs.Shelved.{Covers, IsIndexOf}
-use Rattle.cb_index.specs.declared.entry.Entry.{Entry}
+use Rattle.cb_index.specs.declared.entry.Posting.{Posting}
 use Rattle.cb_index.specs.declared.entry.Shown.{Shown}
 use Rattle.cb_index.proofs.EntryLemmas.{sort_exact}
 use Rattle.cb_index.proofs.IndexLemmas.{IsSame, indexed_out, indexed_same, indexed_take, is_other}
@@ -392,7 +392,7 @@ module _ (keyer : Keyer) (lister : Lister) (a : Archived) where
   -- those of many names go
   pub covers_hidden : (stays : ℕ → Bool) (shown then : List Shown) (x y : Indexed)
       → then ≡ filter (λ (s : Shown). stays s.name) shown
-      → y.held ≡ filter (λ (e : Entry). stays e.name) x.held
+      → y.held ≡ filter (λ (e : Posting). stays e.name) x.held
       → y.pending ≡ filter (λ (s : Shown). stays s.name) x.pending
       → Covers keyer lister a shown x → Covers keyer lister a then y
   covers_hidden stays shown then x y left held waiting is =
@@ -440,13 +440,13 @@ module _ (keyer : Keyer) (lister : Lister) (a : Archived) where
   -- one that is held goes by a pass over all
   pub covers_passed : (one : Shown) (shown : List Shown) (x y : Indexed)
       → list_any (λ (s : Shown). nat_eq s.name one.name) x.pending ≡ false
-      → y.held ≡ filter (λ (e : Entry). not (is_among (one.name ∷ []) e.name)) x.held
+      → y.held ≡ filter (λ (e : Posting). not (is_among (one.name ∷ []) e.name)) x.held
       → y.pending ≡ x.pending → Covers keyer lister a shown x
       → Covers keyer lister a (filter (λ (s : Shown). not (nat_eq s.name one.name)) shown) y
   covers_passed one shown x y none held waiting is =
       covers_hidden (λ n. not (nat_eq n one.name)) shown
       (filter (λ (s : Shown). not (nat_eq s.name one.name)) shown) x y refl
-      (held ∙ (λ i. filter (λ (e : Entry). not (or-false (nat_eq e.name one.name) i)) x.held))
+      (held ∙ (λ i. filter (λ (e : Posting). not (or-false (nat_eq e.name one.name) i)) x.held))
       (waiting ∙ sym (last_stay a one.name x.pending none)) is
 
   -- ---- what waits is put in order

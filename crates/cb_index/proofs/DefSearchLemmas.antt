@@ -27,7 +27,7 @@ use Rattle.cb_index.specs.steps.ToCome.{to_come}
 use Rattle.cb_index.specs.declared.entry.Asked.{Asked}
 use Rattle.cb_index.specs.declared.entry.Asked.TheVariants.{Every}
 use Rattle.cb_index.specs.declared.tags.DefSearch.{DefSearch}
-use Rattle.cb_index.specs.declared.entry.Entry.{Entry}
+use Rattle.cb_index.specs.declared.entry.Posting.{Posting}
 use Rattle.cb_index.specs.declared.entry.Shown.{Shown}
 use Rattle.cb_index.specs.declared.entry.IndexKind.{IndexKind}
 use Rattle.cb_index.proofs.EntryLemmas.{sort_exact}
@@ -69,7 +69,7 @@ every [] = tt
 every (x ∷ xs) = (refl, every xs)
 
 -- all are asked for
-pub all_asked : (kind : IndexKind) (a : Archived) (es : List Entry)
+pub all_asked : (kind : IndexKind) (a : Archived) (es : List Posting)
     → filter (is_asked kind a Every) es ≡ es
 all_asked kind a es = filter_all (is_asked kind a Every) es (every es)
 
@@ -155,7 +155,7 @@ module _ {X : Type 0} (key : X → List ℕ) (exact : (x y : X) → key x ≡ ke
 -- ---- entries
 module _ (a : Archived) where
   -- entries that go by file and number differ
-  pub come_differ : (e f : Entry) → ComesFirst a e f → Differ e f
+  pub come_differ : (e f : Posting) → ComesFirst a e f → Differ e f
   come_differ e f first is =
       true≢false (sym (ap is_lt (subst (ComesFirst a e) (sym is) first))
       ∙ ap is_lt (tied_itself nat_list_cmp_total (file_key a e)))
@@ -190,11 +190,11 @@ front_and false c is = is
 
 -- ---- one entry after another
 module _ (kind : IndexKind) (a : Archived) (asked : Asked) where
-  abbrev order : Entry → List ℕ
+  abbrev order : Posting → List ℕ
   order = sort_key (keyer_of kind) a
 
   -- what goes behind an entry that is still to come goes behind the last one
-  later_still : (last : Option Entry) (e x : Entry) → is_later (keyer_of kind) a last e ≡ true
+  later_still : (last : Option Posting) (e x : Posting) → is_later (keyer_of kind) a last e ≡ true
       → not (goes_first order x e) ≡ true → is_later (keyer_of kind) a last x ≡ true
   later_still None e x later behind = refl
   later_still (Some l) e x later behind = by_test (goes_first order x l) refl
@@ -211,8 +211,8 @@ module _ (kind : IndexKind) (a : Archived) (asked : Asked) where
       by_test false is = refl
 
   -- of those still to come, the ones behind one of them are still to come once it was given
-  still_to_come : (last : Option Entry) (e : Entry) → is_later (keyer_of kind) a last e ≡ true
-      → (x : Entry)
+  still_to_come : (last : Option Posting) (e : Posting) → is_later (keyer_of kind) a last e ≡ true
+      → (x : Posting)
       → (is_to_come kind a asked last x && not (goes_first order x e))
       ≡ is_to_come kind a asked (Some e) x
   still_to_come last e later x = by_test (not (goes_first order x e)) refl
@@ -233,12 +233,13 @@ module _ (kind : IndexKind) (a : Archived) (asked : Asked) where
       by_test false is = gone (is_to_come kind a asked last x)
 
   -- the first of those still to come, and those that are still to come once it was given
-  pub next_to_come : (all : List Entry) → AreOrdered Differ all → (last : Option Entry) (e : Entry)
+  pub next_to_come : (all : List Posting) → AreOrdered Differ all → (last : Option Posting)
+      (e : Posting)
       → first_of (to_come kind a asked last all) ≡ Some e
       → to_come kind a asked last all ≡ e ∷ to_come kind a asked (Some e) all
   next_to_come all apart last e is = by_list (to_come kind a asked last all) refl is
     where
-      given : (z : Entry) (rest : List Entry) → to_come kind a asked last all ≡ z ∷ rest
+      given : (z : Posting) (rest : List Posting) → to_come kind a asked last all ≡ z ∷ rest
           → z ∷ rest ≡ z ∷ to_come kind a asked (Some z) all
       given z rest are =
           let passed = subst (AllByRecursion (λ x. is_to_come kind a asked last x ≡ true)) are
@@ -255,19 +256,21 @@ module _ (kind : IndexKind) (a : Archived) (asked : Asked) where
           (filter_twice (λ x. not (goes_first order x z)) (is_to_come kind a asked last)
           (is_to_come kind a asked (Some z)) (still_to_come last z later) all))
 
-      or_first : Option Entry → Entry → Entry
+      or_first : Option Posting → Posting → Posting
       or_first None d = d
       or_first (Some x) d = x
 
-      by_list : (zs : List Entry) → to_come kind a asked last all ≡ zs → first_of zs ≡ Some e
+      by_list : (zs : List Posting) → to_come kind a asked last all ≡ zs → first_of zs ≡ Some e
           → zs ≡ e ∷ to_come kind a asked (Some e) all
       by_list [] are first = absurd (none-some e first)
       by_list (z ∷ rest) are first =
-          subst (λ x. z ∷ rest ≡ x ∷ to_come kind a asked (Some x) all) (ap (λ o. or_first o z) first)
+          subst (λ x. z ∷ rest ≡ x ∷ to_come kind a asked (Some x) all)
+          (ap (λ o. or_first o z) first)
           (given z rest are)
 
   -- one more entry is still to come
-  pub earlier_is : (last : Option Entry) (e : Entry) (seen : List Entry) (first : Option Entry)
+  pub earlier_is : (last : Option Posting) (e : Posting) (seen : List Posting)
+      (first : Option Posting)
       → first ≡ first_of (to_come kind a asked last seen) → is_to_come kind a asked last e ≡ true
       → Some (earlier (keyer_of kind) a first e)
       ≡ first_of (to_come kind a asked last (seen ++ e ∷ []))
@@ -278,20 +281,21 @@ module _ (kind : IndexKind) (a : Archived) (asked : Asked) where
       ∙ ap first_of (sym (ap (in_order order)
       (filter-append (is_to_come kind a asked last) seen (e ∷ [])
       ∙ ap (λ b. filter (is_to_come kind a asked last) seen ++ cond b (e ∷ []) []) passes)
-      ∙ one_more order (sort_exact (keyer_of kind) a) e (filter (is_to_come kind a asked last) seen)))
+      ∙ one_more order (sort_exact (keyer_of kind) a) e (filter (is_to_come kind a asked last)
+      seen)))
     where
-      by_test : (b : Bool) (z : Entry) (zs : List Entry)
+      by_test : (b : Bool) (z : Posting) (zs : List Posting)
           → Some (cond b e z) ≡ first_of (cond b (e ∷ z ∷ zs) (z ∷ put order e zs))
       by_test true z zs = refl
       by_test false z zs = refl
 
-      by_list : (zs : List Entry)
+      by_list : (zs : List Posting)
           → Some (earlier (keyer_of kind) a (first_of zs) e) ≡ first_of (put order e zs)
       by_list [] = refl
       by_list (z ∷ zs) = by_test (goes_first order e z) z zs
 
   -- one that is not still to come
-  pub not_to_come : (last : Option Entry) (e : Entry) (seen : List Entry)
+  pub not_to_come : (last : Option Posting) (e : Posting) (seen : List Posting)
       → is_to_come kind a asked last e ≡ false
       → to_come kind a asked last seen ≡ to_come kind a asked last (seen ++ e ∷ [])
   not_to_come last e seen fails =
@@ -300,7 +304,7 @@ module _ (kind : IndexKind) (a : Archived) (asked : Asked) where
       ∙ append-nil (filter (is_to_come kind a asked last) seen)))
 
   -- they are no more than all
-  pub few_to_come : (last : Option Entry) (es : List Entry)
+  pub few_to_come : (last : Option Posting) (es : List Posting)
       → length (to_come kind a asked last es) ≤ length es
   few_to_come last es =
       let same = length_in_order order (filter (is_to_come kind a asked last) es) in
@@ -308,7 +312,7 @@ module _ (kind : IndexKind) (a : Archived) (asked : Asked) where
       omega (arith, same, fewer)
 
 -- before any is given, those that are asked for are still to come
-pub asked_first : (kind : IndexKind) (a : Archived) (asked : Asked) (es : List Entry)
+pub asked_first : (kind : IndexKind) (a : Archived) (asked : Asked) (es : List Posting)
     → to_come kind a asked None es
     ≡ filter (is_asked kind a asked) (in_order (sort_key (keyer_of kind) a) es)
 asked_first kind a asked es =
@@ -324,19 +328,20 @@ listed_defs true text = refl
 
 -- ---- the first one is found
 module _ (s : DefSearch) where
-  abbrev Come : List Entry → List Entry
+  abbrev Come : List Posting → List Posting
   Come es = to_come (def_kind s.by_tag_name) s.archive.now s.asked s.last es
 
-  pub among_both : (before : Option Entry) (xs ys : List Entry)
+  pub among_both : (before : Option Posting) (xs ys : List Posting)
       → first_among s before (xs ++ ys) ≡ first_among s (first_among s before xs) ys
   among_both before [] ys = refl
   among_both before (x ∷ xs) ys = among_both (earlier_of s before x) xs ys
 
-  abbrev All : List Shown → List Entry
+  abbrev All : List Shown → List Posting
   All shown = all_entries (lister_of (def_kind s.by_tag_name)) s.archive.now shown
 
   -- one version after another
-  one_seen : (before : Option Entry) (e : Entry) (seen : List Entry) → before ≡ first_of (Come seen)
+  one_seen : (before : Option Posting) (e : Posting) (seen : List Posting)
+      → before ≡ first_of (Come seen)
       → earlier_of s before e ≡ first_of (Come (seen ++ e ∷ []))
   one_seen before e seen is =
       by_test (is_to_come (def_kind s.by_tag_name) s.archive.now s.asked s.last e)
@@ -354,14 +359,14 @@ module _ (s : DefSearch) where
           is ∙ ap first_of (not_to_come (def_kind s.by_tag_name) s.archive.now
           s.asked s.last e seen fails)
 
-  all_seen : (before : Option Entry) (seen es : List Entry) → before ≡ first_of (Come seen)
+  all_seen : (before : Option Posting) (seen es : List Posting) → before ≡ first_of (Come seen)
       → first_among s before es ≡ first_of (Come (seen ++ es))
   all_seen before seen [] is = is ∙ ap (λ l. first_of (Come l)) (sym (append-nil seen))
   all_seen before seen (e ∷ es) is =
       all_seen (earlier_of s before e) (seen ++ e ∷ []) es (one_seen before e seen is)
       ∙ ap (λ l. first_of (Come l)) (append_assoc seen (e ∷ []) es)
 
-  pub among_all : (es : List Entry) → first_among s None es ≡ first_of (Come es)
+  pub among_all : (es : List Posting) → first_among s None es ≡ first_of (Come es)
   unfolding in_order
   among_all es = all_seen None [] es refl
 

@@ -7,15 +7,15 @@ use Rattle.std.specs.declared.cmp.Ordering.TheVariants.{Equal}
 use Rattle.cb_scan.proofs.KeyOrder.{both_equal, ended, same_number}
 use Rattle.cb_index.specs.Archived.{Archived, name_of}
 use Rattle.cb_index.specs.Entries.{Keyer, bytes_key, file_key, key_of, numbers, sort_key}
-use Rattle.cb_index.specs.declared.entry.Entry.{Entry}
+use Rattle.cb_index.specs.declared.entry.Posting.{Posting}
 
-module _ (a : Archived) (e f : Entry) where
+module _ (a : Archived) (e f : Posting) where
   pub file_cmp : ordering_then (slice_cmp nat_cmp (name_of a e.name) (name_of a f.name))
       (slice_cmp nat_cmp (numbers e) (numbers f))
       ≡ slice_cmp nat_cmp (file_key a e) (file_key a f)
   file_cmp = sym (ended (name_of a e.name) (name_of a f.name) (numbers e) (numbers f))
 
-module _ (keyer : Keyer) (a : Archived) (e f : Entry) where
+module _ (keyer : Keyer) (a : Archived) (e f : Posting) where
   pub bytes_cmp : ordering_then (slice_cmp nat_cmp (key_of keyer a e) (key_of keyer a f))
       (slice_cmp nat_cmp (file_key a e) (file_key a f))
       ≡ slice_cmp nat_cmp (bytes_key keyer a e) (bytes_key keyer a f)

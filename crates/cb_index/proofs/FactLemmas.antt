@@ -33,7 +33,7 @@ use Rattle.cb_index.specs.steps.Found.{facts_in_text}
 use Rattle.cb_index.specs.steps.Given.{given_in, given_in_text}
 use Rattle.cb_index.specs.steps.Searched.{items_with}
 use Rattle.cb_index.specs.steps.Spread.{items_from}
-use Rattle.cb_index.specs.declared.entry.Entry.{Entry}
+use Rattle.cb_index.specs.declared.entry.Posting.{Posting}
 use Rattle.cb_index.specs.declared.entry.Shown.{Shown}
 use Rattle.cb_index.specs.declared.entry.FactKind.{FactKind}
 use Rattle.cb_index.specs.declared.entry.FactKind.TheVariants.{Uses, Callees, Callers}
@@ -180,7 +180,7 @@ module _ (kind : FactKind) (a : Archived) (key : List ℕ) where
       ++ all_facts shown all.1 i)
 
   pub rows_of_facts : (shown : List Shown) → AllByRecursion (IsThere a) shown → AreAscending a shown
-      → (es : List Entry)
+      → (es : List Posting)
       → IsIndexOf (item_keyer kind) (firsts_in kind) a shown es
       → facts_in kind a (filter (has_key (item_keyer kind) a (key_prefix key) key) es)
       ≡ facts_named a.profile kind key (files_of a shown)
@@ -200,8 +200,8 @@ given_all sort file item (Some text) =
     kept_all [] = refl
     kept_all (i ∷ items) = ap (λ l. i ∷ l) (kept_all items)
 
-pub all_given : (sort : FactKind) (a : Archived) (es : List Entry)
+pub all_given : (sort : FactKind) (a : Archived) (es : List Posting)
     → given_in true sort a es ≡ facts_in sort a es
 all_given sort a es =
     λ i. flat_map
-    (λ (e : Entry). given_all sort (name_of a e.name) e.number (text_at a e.version) i) es
+    (λ (e : Posting). given_all sort (name_of a e.name) e.number (text_at a e.version) i) es

@@ -16,7 +16,7 @@ use Rattle.cb_index.specs.Scanned.{Scanned}
 use Rattle.cb_index.specs.Firsts.{listed}
 use Rattle.cb_index.specs.Held.{entry_of}
 use Rattle.cb_index.specs.Items.{have_one_key, is_first, item_count, item_key, later}
-use Rattle.cb_index.specs.declared.entry.Entry.{Entry}
+use Rattle.cb_index.specs.declared.entry.Posting.{Posting}
 use Rattle.cb_index.specs.declared.entry.Shown.{Shown}
 use Rattle.cb_index.specs.declared.entry.FactKind.{FactKind}
 use Rattle.cb_index.proofs.RangeItems.{range_next}
@@ -84,9 +84,9 @@ module _ (sort : FactKind) (text : Scanned) (key : List ℕ) where
       ∙ filter_agree (have_one_key sort text item) has (same_test item is)
       (range_with_len (suc item) len)
 
-  module _ (takes : Entry → Bool) (s : Shown)
+  module _ (takes : Posting → Bool) (s : Shown)
       (tests : (item : ℕ) → takes (entry_of s (listed sort text item)) ≡ has item) where
-    abbrev entries_in : List ℕ → List Entry
+    abbrev entries_in : List ℕ → List Posting
     entries_in items = map (entry_of s) (map (listed sort text) (filter (is_first sort text) items))
 
     -- behind an item that has the key no first item has it
@@ -112,7 +112,7 @@ module _ (sort : FactKind) (text : Scanned) (key : List ℕ) where
         step false here is_none has_or_not rest = rest
 
     -- of the entries of first items there is at most one that has the key
-    module _ (P : List Entry → Type 0) (none : P []) (one : (item : ℕ)
+    module _ (P : List Posting → Type 0) (none : P []) (one : (item : ℕ)
         → is_first sort text item ≡ true → P (entry_of s (listed sort text item) ∷ [])) where
       pub at_most_one : (n len : ℕ) → P (filter takes (entries_in (range_with_len n len)))
       at_most_one n zero = none
@@ -138,11 +138,12 @@ module _ (sort : FactKind) (text : Scanned) (key : List ℕ) where
           step false here is_none has_or_not rest = rest
 
   -- ---- what the entries of the first items give
-  module _ {Y : Type 0} (fact : ℕ → Y) (give : Entry → List Y) (takes : Entry → Bool) (s : Shown)
+  module _ {Y : Type 0} (fact : ℕ → Y) (give : Posting → List Y) (takes : Posting → Bool)
+      (s : Shown)
       (gives : (item : ℕ)
       → give (entry_of s (listed sort text item)) ≡ map fact (item ∷ later sort text item))
       (tests : (item : ℕ) → takes (entry_of s (listed sort text item)) ≡ has item) where
-    abbrev entries_of_firsts : List ℕ → List Entry
+    abbrev entries_of_firsts : List ℕ → List Posting
     entries_of_firsts = entries_in takes s tests
 
     pub firsts_give : (n len : ℕ) → n + len ≡ item_count sort text
@@ -159,7 +160,7 @@ module _ (sort : FactKind) (text : Scanned) (key : List ℕ) where
         rest : List ℕ
         rest = range_with_len (suc n) len
 
-        behind : List Entry
+        behind : List Posting
         behind = filter takes (entries_of_firsts rest)
 
         later_none : has n ≡ false → (before : ℕ) → before < suc n → has before ≡ false

@@ -12,7 +12,7 @@ use Rattle.cb_index.specs.Files.{IsThere, is_shown, shown_name, shown_under}
 use Rattle.cb_index.specs.Held.{all_entries, entries_of}
 use Rattle.cb_index.specs.Kinds.{keyer_of, lister_of}
 use Rattle.cb_index.specs.Spreads.{HoldsRowsOf}
-use Rattle.cb_index.specs.declared.entry.Entry.{Entry}
+use Rattle.cb_index.specs.declared.entry.Posting.{Posting}
 use Rattle.cb_index.specs.declared.entry.Shown.{Shown}
 use Rattle.cb_index.specs.declared.entry.IndexKind.{IndexKind}
 use Rattle.cb_index.proofs.AscendLemmas.{ascending_filter, ascending_put, others}
@@ -23,11 +23,11 @@ use Rattle.cb_index.proofs.ListedLemmas.{ascending_apart}
 
 module _ (kind : IndexKind) (a : Archived) where
   -- no rows
-  pub rows_none : (es : List Entry) → es ≡ [] → HoldsRowsOf kind a [] es
+  pub rows_none : (es : List Posting) → es ≡ [] → HoldsRowsOf kind a [] es
   unfolding in_order AreOrdered
   rows_none es none = record { there = tt; ascending = tt; entries = none }
 
-  module _ (shown : List Shown) (s : Shown) (es then : List Entry)
+  module _ (shown : List Shown) (s : Shown) (es then : List Posting)
       (held : HoldsRowsOf kind a shown es) where
     -- those of one more file
     pub rows_more : then
@@ -50,7 +50,7 @@ module _ (kind : IndexKind) (a : Archived) where
     }
 
     -- those of the others, where one file goes
-    pub rows_fewer : ((rest : List Entry)
+    pub rows_fewer : ((rest : List Posting)
         → es ≡ in_order (sort_key (keyer_of kind) a) (entries_of (lister_of kind) a s ++ rest)
         → then ≡ in_order (sort_key (keyer_of kind) a) rest)
         → shown_under s.name shown ≡ Some s

@@ -27,13 +27,13 @@ use Rattle.cb_index.specs.Files.{AreApart, AreAscending, shown_under, total}
 use Rattle.cb_index.specs.Held.{AreRising, Listed, Lister, all_entries, entries_of, entry_of}
 use Rattle.cb_index.specs.Held.{listed_of}
 use Rattle.cb_index.specs.Shelved.{IsIndexOf}
-use Rattle.cb_index.specs.declared.entry.Entry.{Entry}
+use Rattle.cb_index.specs.declared.entry.Posting.{Posting}
 use Rattle.cb_index.specs.declared.entry.Shown.{Shown}
 use Rattle.cb_index.proofs.EntryLemmas.{file_cmp, sort_exact}
 use Rattle.cb_index.proofs.InOrderLemmas.{filter_in_order, in_order_cong, same_order, sum_flat}
 
 -- ---- the entries of one version
-abbrev pub IsUnder : Shown → Entry → Type 0
+abbrev pub IsUnder : Shown → Posting → Type 0
 IsUnder s e = (e.name ≡ s.name) × (e.version ≡ s.version)
 
 under_all : (s : Shown) (items : List Listed) → AllByRecursion (IsUnder s) (map (entry_of s) items)
@@ -44,30 +44,30 @@ under_all s (item ∷ items) = ((refl, refl), under_all s items)
 -- ---- an index takes many versions in
 -- ---- and lets some go, by the numbers of their names
 module _ (lister : Lister) (a : Archived) (stays : ℕ → Bool) where
-  nothing : (b : Bool) → ◌≡◌ {A = List Entry} [] (cond b [] [])
+  nothing : (b : Bool) → ◌≡◌ {A = List Posting} [] (cond b [] [])
   nothing true = refl
   nothing false = refl
 
   kept_of : (s : Shown) (items : List Listed)
-      → filter (λ (e : Entry). stays e.name) (map (entry_of s) items)
+      → filter (λ (e : Posting). stays e.name) (map (entry_of s) items)
       ≡ cond (stays s.name) (map (entry_of s) items) []
   kept_of s [] = nothing (stays s.name)
   kept_of s (item ∷ items) =
       step (stays s.name) (entry_of s item)
-      (filter (λ (e : Entry). stays e.name) (map (entry_of s) items))
+      (filter (λ (e : Posting). stays e.name) (map (entry_of s) items))
       (map (entry_of s) items) (kept_of s items)
     where
-      step : (b : Bool) (e : Entry) (kept es : List Entry) → kept ≡ cond b es []
+      step : (b : Bool) (e : Posting) (kept es : List Posting) → kept ≡ cond b es []
           → cond b (e ∷ kept) kept ≡ cond b (e ∷ es) []
       step true e kept es is = ap (λ l. e ∷ l) is
       step false e kept es is = is
 
   kept_all : (shown : List Shown)
-      → filter (λ (e : Entry). stays e.name) (all_entries lister a shown)
+      → filter (λ (e : Posting). stays e.name) (all_entries lister a shown)
       ≡ all_entries lister a (filter (λ (s : Shown). stays s.name) shown)
   kept_all [] = refl
   kept_all (s ∷ shown) =
-      filter-append (λ (e : Entry). stays e.name) (entries_of lister a s)
+      filter-append (λ (e : Posting). stays e.name) (entries_of lister a s)
       (all_entries lister a shown)
       ∙ (λ i. kept_of s (listed_of lister a s.version) i ++ kept_all shown i)
       ∙ elim (stays s.name) as (λ b.
@@ -76,13 +76,13 @@ module _ (lister : Lister) (a : Archived) (stays : ℕ → Bool) where
       ≡ all_entries lister a (cond b (s ∷ filter (λ (t : Shown). stays t.name) shown)
       (filter (λ (t : Shown). stays t.name) shown))) [ true ↦ refl | false ↦ refl ]
 
-  pub indexed_take : (keyer : Keyer) (shown : List Shown) (es : List Entry)
+  pub indexed_take : (keyer : Keyer) (shown : List Shown) (es : List Posting)
       → IsIndexOf keyer lister a shown es
       → IsIndexOf keyer lister a (filter (λ (s : Shown). stays s.name) shown)
-      (filter (λ (e : Entry). stays e.name) es)
+      (filter (λ (e : Posting). stays e.name) es)
   indexed_take keyer shown es is =
-      ap (filter (λ (e : Entry). stays e.name)) is
-      ∙ filter_in_order (sort_key keyer a) (sort_exact keyer a) (λ (e : Entry). stays e.name)
+      ap (filter (λ (e : Posting). stays e.name)) is
+      ∙ filter_in_order (sort_key keyer a) (sort_exact keyer a) (λ (e : Posting). stays e.name)
       (all_entries lister a shown)
       ∙ ap (in_order (sort_key keyer a)) (kept_all shown)
 
@@ -165,7 +165,7 @@ module _ (a : Archived) (name : ℕ) where
 
   -- an index has the entries of what is shown under the name, and those of the others
   pub indexed_out : (keyer : Keyer) (lister : Lister) (shown : List Shown)
-      (one : Shown) (es : List Entry)
+      (one : Shown) (es : List Posting)
       → shown_under name shown ≡ Some one → AreApart a shown → IsIndexOf keyer lister a shown es
       → es ≡ in_order (sort_key keyer a)
       (entries_of lister a one
@@ -196,7 +196,7 @@ module _ (keyer : Keyer) (lister : Lister) (a b : Archived) where
   same_entries (s ∷ shown) all =
       λ i. map (entry_of s) (lister (all.0.0 i)) ++ same_entries shown all.1 i
 
-  same_key : (s : Shown) → IsSame a b s → (e : Entry) → IsUnder s e
+  same_key : (s : Shown) → IsSame a b s → (e : Posting) → IsUnder s e
       → sort_key keyer a e ≡ sort_key keyer b e
   unfolding sort_key
   same_key s same e of =
@@ -218,7 +218,7 @@ module _ (keyer : Keyer) (lister : Lister) (a b : Archived) where
       (same_keys shown all.1)
 
   -- what an index holds depends on what stands under its numbers alone
-  pub indexed_same : (shown : List Shown) (es : List Entry) → AllByRecursion (IsSame a b) shown
+  pub indexed_same : (shown : List Shown) (es : List Posting) → AllByRecursion (IsSame a b) shown
       → IsIndexOf keyer lister a shown es → IsIndexOf keyer lister b shown es
   indexed_same shown es all is =
       is ∙ in_order_cong (sort_key keyer a) (sort_key keyer b) (all_entries lister a shown)
@@ -240,14 +240,14 @@ module _ (lister : Lister) (count : Option Scanned → ℕ)
 
 -- ---- the entries of one version after another
 module _ (lister : Lister) (a : Archived) (shown : List Shown) (i : ℕ) (d : Shown)
-    (es old : List Entry) (room : ℕ) where
+    (es old : List Posting) (room : ℕ) where
   pub next_fits : i < length shown
       → es ++ all_entries lister a (drop i shown) ≡ old ++ all_entries lister a shown
       → length old + length (all_entries lister a shown) ≤ room
       → length es + length (listed_of lister a (get_or shown i d).version) ≤ room
   next_fits below is enough =
       let s : Shown = get_or shown i d in
-      let later : List Entry = all_entries lister a (drop (suc i) shown) in
+      let later : List Posting = all_entries lister a (drop (suc i) shown) in
       let whole : length (es ++ (entries_of lister a s ++ later))
       ≡ length (old ++ all_entries lister a shown) =
       ap (λ l. length (es ++ all_entries lister a l)) (sym (drop-cons shown i d below))
@@ -269,11 +269,11 @@ ordered-append R (x ∷ xs) ys front back across =
 
 -- ---- entries go by file and number
 -- e comes before f in the order of files
-abbrev pub ComesFirst : Archived → Entry → Entry → Type 0
+abbrev pub ComesFirst : Archived → Posting → Posting → Type 0
 ComesFirst a e f = slice_cmp nat_cmp (file_key a e) (file_key a f) ≡ Less
 
 module _ (a : Archived) where
-  pub by_number : (e f : Entry) → e.name ≡ f.name → e.version ≡ f.version → e.number < f.number
+  pub by_number : (e f : Posting) → e.name ≡ f.name → e.version ≡ f.version → e.number < f.number
       → ComesFirst a e f
   by_number e f name version less =
       let number : nat_cmp e.number f.number ≡ Less =
@@ -289,7 +289,7 @@ module _ (a : Archived) where
       ∙ (λ i. ordering_then (files i) (ordering_then (names i) (ordering_then (versions i)
       (ordering_then (number i) (slice_cmp nat_cmp (e.rows ∷ []) (f.rows ∷ []))))))
 
-  by_name : (e f : Entry) → slice_cmp nat_cmp (name_of a e.name) (name_of a f.name) ≡ Less
+  by_name : (e f : Posting) → slice_cmp nat_cmp (name_of a e.name) (name_of a f.name) ≡ Less
       → ComesFirst a e f
   by_name e f less =
       sym (file_cmp a e f)
@@ -309,7 +309,7 @@ module _ (a : Archived) where
   one_ordered s (item ∷ items) up = (behind s item items up.0, one_ordered s items up.1)
 
   module _ (lister : Lister) (rising : (t : Option Scanned) → AreRising (lister t)) where
-    later_files : (s : Shown) (e : Entry) → e.name ≡ s.name → (shown : List Shown)
+    later_files : (s : Shown) (e : Posting) → e.name ≡ s.name → (shown : List Shown)
         → AllByRecursion
         (λ (t : Shown). slice_cmp nat_cmp (name_of a s.name) (name_of a t.name) ≡ Less) shown
         → AllByRecursion (ComesFirst a e) (all_entries lister a shown)

@@ -36,7 +36,7 @@ pub mod RowOrderLemmas
 pub mod RowsAscendLemmas
 pub mod RunLemmas
 pub mod SearchLemmas
-pub mod ShownListLemmas
+pub mod ShownLemmas
 pub mod SortLemmas
 pub mod SortedLemmas
 pub mod SpreadLemmas

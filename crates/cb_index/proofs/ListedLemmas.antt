@@ -29,7 +29,7 @@ use Rattle.cb_index.proofs.InOrderLemmas.{in_order_agree, same_order}
 use Rattle.cb_index.proofs.AscendLemmas.{After, ascending_put, ascending_sorted, before_all, others}
 use Rattle.cb_index.proofs.AscendLemmas.{split_or, strict}
 use Rattle.cb_index.specs.steps.Bounds.{is_below}
-use Rattle.cb_index.proofs.ShownListLemmas.{above_is_below}
+use Rattle.cb_index.proofs.ShownLemmas.{above_is_below}
 
 abbrev Names : List ℕ → List ℕ → Ordering
 Names = slice_cmp nat_cmp

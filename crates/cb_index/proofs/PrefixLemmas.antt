@@ -25,7 +25,7 @@ use Rattle.cb_index.specs.Entries.{Keyer, has_key, key_cmp, key_of}
 use Rattle.cb_index.specs.Held.{Lister, all_entries, entries_of, entry_of}
 use Rattle.cb_index.specs.Orders.{def_key, def_prefix, defs_listed, numbered, tag_front, tag_key}
 use Rattle.cb_index.specs.Orders.{tag_prefix, tags_listed}
-use Rattle.cb_index.specs.declared.entry.Entry.{Entry}
+use Rattle.cb_index.specs.declared.entry.Posting.{Posting}
 use Rattle.cb_index.specs.declared.entry.Shown.{Shown}
 use Rattle.cb_index.proofs.RestLemmas.{at_front, drop_next}
 
@@ -171,13 +171,13 @@ tag_bytes name file bytes =
     [ true ↦ (omega arith, tt) | false ↦ front_bytes name bytes ]
 
 -- ---- entries that have the prefixes of their keys
-abbrev pub HasPrefix : (List ℕ → List ℕ) → Keyer → Archived → Entry → Type 0
+abbrev pub HasPrefix : (List ℕ → List ℕ) → Keyer → Archived → Posting → Type 0
 HasPrefix front keyer a e =
     (e.prefix ≡ key_prefix (front (key_of keyer a e))) × AreBytes (front (key_of keyer a e))
 
 -- such an entry has a key where the keys are equal
 pub key_decides : (front : List ℕ → List ℕ) (keyer : Keyer) (a : Archived)
-    (key : List ℕ) (e : Entry)
+    (key : List ℕ) (e : Posting)
     → e.prefix ≡ key_prefix (front (key_of keyer a e))
     → has_key keyer a (key_prefix (front key)) key e ≡ bytes_eq key (key_of keyer a e)
 key_decides front keyer a key e told = by_key (bytes_eq key (key_of keyer a e)) refl
@@ -194,7 +194,7 @@ key_decides front keyer a key e told = by_key (bytes_eq key (key_of keyer a e)) 
 
 -- a key is compared with that of such an entry as without prefixes
 pub key_compared : (front : List ℕ → List ℕ) → GoesFirst front → (keyer : Keyer) (a : Archived)
-    (key : List ℕ) → AreBytes (front key) → (e : Entry) → HasPrefix front keyer a e
+    (key : List ℕ) → AreBytes (front key) → (e : Posting) → HasPrefix front keyer a e
     → key_cmp keyer a (key_prefix (front key)) key e ≡ slice_cmp nat_cmp key (key_of keyer a e)
 key_compared front first keyer a key bytes e told =
     (λ i. ordering_then (nat_cmp (key_prefix (front key)) (told.0 i))

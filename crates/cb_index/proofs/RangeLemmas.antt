@@ -23,7 +23,7 @@ use Rattle.cb_index.specs.Archived.{Archived}
 use Rattle.cb_index.specs.Entries.{Keyer, file_key, has_key, has_key_from, key_cmp, key_of}
 use Rattle.cb_index.specs.Entries.{sort_key}
 use Rattle.cb_index.specs.steps.Bounds.{is_ahead}
-use Rattle.cb_index.specs.declared.entry.Entry.{Entry}
+use Rattle.cb_index.specs.declared.entry.Posting.{Posting}
 use Rattle.cb_index.specs.declared.order.Side.{Side}
 use Rattle.cb_index.specs.declared.order.Side.TheVariants.{Behind, Before, After}
 use Rattle.cb_index.proofs.EntryLemmas.{bytes_cmp, sort_exact}
@@ -63,7 +63,7 @@ turned_lt x y = ap is_lt (heads_total.antisymm x y) ∙ reversed (heads y x)
 
 module _ (keyer : Keyer) (a : Archived) where
   -- what goes first has no greater prefix and key
-  head_first : (e f : Entry) → goes_first (sort_key keyer a) e f ≡ true
+  head_first : (e f : Posting) → goes_first (sort_key keyer a) e f ≡ true
       → is_gt (heads (e.prefix, (key_of keyer a e)) (f.prefix, (key_of keyer a f))) ≡ false
   unfolding sort_key
   head_first e f is =
@@ -83,7 +83,7 @@ module _ (keyer : Keyer) (a : Archived) where
   all_at P (x ∷ xs) all zero d below = all.0
   all_at P (x ∷ xs) all (suc k) d below = all_at P xs all.1 k d (omega (arith, below))
 
-  sorted_far : (es : List Entry) → Sorted (sort_key keyer a) es → (i j : ℕ) (d : Entry)
+  sorted_far : (es : List Posting) → Sorted (sort_key keyer a) es → (i j : ℕ) (d : Posting)
       → i ≤ j → j < length es
       → goes_first (sort_key keyer a) (get_or es i d) (get_or es j d) ≡ true
   sorted_far [] s i j d upward below = absurd (omega (arith, below))
@@ -96,7 +96,7 @@ module _ (keyer : Keyer) (a : Archived) where
 
   module _ (prefix : ℕ) (key : List ℕ) where
     -- where an entry is below the key, so are those before it
-    pub below_parted : (es : List Entry) → Sorted (sort_key keyer a) es
+    pub below_parted : (es : List Posting) → Sorted (sort_key keyer a) es
         → IsPartitionedBy (λ e. is_gt (key_cmp keyer a prefix key e)) es
     below_parted es s i j d upward below is =
         let e = get_or es i d in
@@ -114,7 +114,7 @@ module _ (keyer : Keyer) (a : Archived) where
             ((get_or es j d).prefix, (key_of keyer a (get_or es j d))) e first))
 
     -- where an entry is not above the key, those before it are not
-    pub upto_parted : (es : List Entry) → Sorted (sort_key keyer a) es
+    pub upto_parted : (es : List Posting) → Sorted (sort_key keyer a) es
         → IsPartitionedBy (λ e. not (is_lt (key_cmp keyer a prefix key e))) es
     upto_parted es s i j d upward below is =
         let e = get_or es i d in
@@ -135,12 +135,12 @@ module _ (keyer : Keyer) (a : Archived) where
     nat_same : (x y : ℕ) → is_eq (nat_cmp x y) ≡ nat_eq x y
     nat_same x y = grind (arith, nat_tests)
 
-    tested : (e : Entry) → has_key keyer a prefix key e ≡ is_eq (key_cmp keyer a prefix key e)
+    tested : (e : Posting) → has_key keyer a prefix key e ≡ is_eq (key_cmp keyer a prefix key e)
     tested e =
         (λ i. sym (nat_same prefix e.prefix) i && sym (is_eq-slice_cmp key (key_of keyer a e)) i)
         ∙ sym (both_same (nat_cmp prefix e.prefix) (slice_cmp nat_cmp key (key_of keyer a e)))
 
-    pub has_not_above : (e : Entry) → is_gt (key_cmp keyer a prefix key e) ≡ true
+    pub has_not_above : (e : Posting) → is_gt (key_cmp keyer a prefix key e) ≡ true
         → has_key keyer a prefix key e ≡ false
     has_not_above e is = tested e ∙ no_equal (key_cmp keyer a prefix key e) is
       where
@@ -149,7 +149,7 @@ module _ (keyer : Keyer) (a : Archived) where
         no_equal Equal is = absurd (false≢true is)
         no_equal Greater is = refl
 
-    pub has_not_below : (e : Entry) → not (is_lt (key_cmp keyer a prefix key e)) ≡ false
+    pub has_not_below : (e : Posting) → not (is_lt (key_cmp keyer a prefix key e)) ≡ false
         → has_key keyer a prefix key e ≡ false
     has_not_below e is = tested e ∙ no_equal (key_cmp keyer a prefix key e) is
       where
@@ -158,7 +158,7 @@ module _ (keyer : Keyer) (a : Archived) where
         no_equal Equal is = absurd (true≢false is)
         no_equal Greater is = refl
 
-    pub has_between : (e : Entry) → is_gt (key_cmp keyer a prefix key e) ≡ false
+    pub has_between : (e : Posting) → is_gt (key_cmp keyer a prefix key e) ≡ false
         → not (is_lt (key_cmp keyer a prefix key e)) ≡ true → has_key keyer a prefix key e ≡ true
     has_between e low high = tested e ∙ equal (key_cmp keyer a prefix key e) low high
       where
@@ -168,14 +168,14 @@ module _ (keyer : Keyer) (a : Archived) where
         equal Greater low high = absurd (true≢false low)
 
 -- a list that is the list in order is sorted
-pub sorted_from : (keyer : Keyer) (a : Archived) (es : List Entry)
+pub sorted_from : (keyer : Keyer) (a : Archived) (es : List Posting)
     → es ≡ in_order (sort_key keyer a) es → Sorted (sort_key keyer a) es
 sorted_from keyer a es is =
     subst (Sorted (sort_key keyer a)) (sym is) (in_order_sorted (sort_key keyer a) es)
 
 -- ---- what stands ahead of a bound
 module _ (keyer : Keyer) (a : Archived) where
-  ahead_first : (bound : Side) (e f : Entry) → goes_first (sort_key keyer a) e f ≡ true
+  ahead_first : (bound : Side) (e f : Posting) → goes_first (sort_key keyer a) e f ≡ true
       → is_ahead keyer a bound f ≡ true
       → is_ahead keyer a bound e ≡ true
   unfolding is_ahead
@@ -188,14 +188,14 @@ module _ (keyer : Keyer) (a : Archived) where
       upto_parted keyer a prefix key.now (e ∷ f ∷ []) ((first, tt), (tt, tt)) 0 1 e
       (omega arith) (omega arith) is
 
-  pub ahead_parts : (bound : Side) (es : List Entry) → es ≡ in_order (sort_key keyer a) es
+  pub ahead_parts : (bound : Side) (es : List Posting) → es ≡ in_order (sort_key keyer a) es
       → AreParted (is_ahead keyer a bound) es
   ahead_parts bound es is =
       parts_sorted (is_ahead keyer a bound) (sort_key keyer a) (ahead_first bound) es
       (sorted_from keyer a es is)
 
 module _ (keyer : Keyer) (a : Archived) (prefix : ℕ) (key : List ℕ) where
-  none_has : (es : List Entry)
+  none_has : (es : List Posting)
       → AllByRecursion (λ e. not (is_lt (key_cmp keyer a prefix key e)) ≡ false) es
       → [] ≡ filter (has_key keyer a prefix key) es
   none_has [] high = refl
@@ -205,7 +205,7 @@ module _ (keyer : Keyer) (a : Archived) (prefix : ℕ) (key : List ℕ) where
       cond b (e ∷ filter (has_key keyer a prefix key) es) (filter (has_key keyer a prefix key) es))
       (has_not_below keyer a prefix key e high.0))
 
-  front_has : (n : ℕ) (es : List Entry)
+  front_has : (n : ℕ) (es : List Posting)
       → AllByRecursion (λ e. is_gt (key_cmp keyer a prefix key e) ≡ false) es
       → AllByRecursion (λ e. not (is_lt (key_cmp keyer a prefix key e)) ≡ true) (take n es)
       → AllByRecursion (λ e. not (is_lt (key_cmp keyer a prefix key e)) ≡ false) (drop n es)
@@ -219,7 +219,7 @@ module _ (keyer : Keyer) (a : Archived) (prefix : ℕ) (key : List ℕ) where
       (has_between keyer a prefix key e low.0 mid.0))
 
   -- what lies between the two places has the key, and nothing else does
-  pub between_is : (m n : ℕ) (es : List Entry)
+  pub between_is : (m n : ℕ) (es : List Posting)
       → AllByRecursion (λ e. is_gt (key_cmp keyer a prefix key e) ≡ true) (take m es)
       → AllByRecursion (λ e. is_gt (key_cmp keyer a prefix key e) ≡ false) (drop m es)
       → AllByRecursion (λ e. not (is_lt (key_cmp keyer a prefix key e)) ≡ true) (take n es)
@@ -235,8 +235,8 @@ module _ (keyer : Keyer) (a : Archived) (prefix : ℕ) (key : List ℕ) where
       (has_not_above keyer a prefix key e above.0))
 
 -- ---- an entry comes or goes where the place behind it is
-module _ (keyer : Keyer) (a : Archived) (one : Entry) where
-  pub behind_inserted : (n : ℕ) (es : List Entry) → es ≡ in_order (sort_key keyer a) es
+module _ (keyer : Keyer) (a : Archived) (one : Posting) where
+  pub behind_inserted : (n : ℕ) (es : List Posting) → es ≡ in_order (sort_key keyer a) es
       → AllByRecursion (λ e. is_ahead keyer a (Behind one) e ≡ true) (take n es)
       → AllByRecursion (λ e. is_ahead keyer a (Behind one) e ≡ false) (drop n es)
       → take n es ++ one ∷ drop n es ≡ in_order (sort_key keyer a) (es ++ one ∷ [])
@@ -245,7 +245,8 @@ module _ (keyer : Keyer) (a : Archived) (one : Entry) where
       inserted_is (sort_key keyer a) (sort_exact keyer a) n es one
       (sorted_from keyer a es order) ahead behind
 
-  pub behind_taken : (n : ℕ) (rest es : List Entry) → es ≡ in_order (sort_key keyer a) (one ∷ rest)
+  pub behind_taken : (n : ℕ) (rest es : List Posting)
+      → es ≡ in_order (sort_key keyer a) (one ∷ rest)
       → n < length es
       → AllByRecursion (λ e. is_ahead keyer a (Behind one) e ≡ true) (take (suc n) es)
       → AllByRecursion (λ e. is_ahead keyer a (Behind one) e ≡ false) (drop (suc n) es)
@@ -254,14 +255,14 @@ module _ (keyer : Keyer) (a : Archived) (one : Entry) where
   behind_taken n rest es is below ahead behind =
       taken_is (sort_key keyer a) (sort_exact keyer a) n rest es one one is below ahead behind
 
-  pub behind_some : (rest es : List Entry) → es ≡ in_order (sort_key keyer a) (one ∷ rest)
+  pub behind_some : (rest es : List Posting) → es ≡ in_order (sort_key keyer a) (one ∷ rest)
       → AllByRecursion (λ e. is_ahead keyer a (Behind one) e ≡ false) es → true ≡ false
   unfolding is_ahead
   behind_some rest es is none = some_ahead (sort_key keyer a) rest es one is none
 
 -- ---- the entries of a key lie between its bounds
 module _ (keyer : Keyer) (a : Archived) (prefix : ℕ) (key : Bor (List ℕ)) where
-  pub key_between : (m n : ℕ) (es : List Entry)
+  pub key_between : (m n : ℕ) (es : List Posting)
       → AllByRecursion (λ e. is_ahead keyer a (Before prefix key) e ≡ true) (take m es)
       → AllByRecursion (λ e. is_ahead keyer a (Before prefix key) e ≡ false) (drop m es)
       → AllByRecursion (λ e. is_ahead keyer a (After prefix key) e ≡ true) (take n es)
@@ -273,7 +274,7 @@ module _ (keyer : Keyer) (a : Archived) (prefix : ℕ) (key : Bor (List ℕ)) wh
 
 -- ---- the entries whose keys are not less stand behind the bound before the key
 module _ (keyer : Keyer) (a : Archived) (prefix : ℕ) (key : List ℕ) where
-  all_from : (es : List Entry)
+  all_from : (es : List Posting)
       → AllByRecursion (λ e. is_gt (key_cmp keyer a prefix key e) ≡ false) es
       → es ≡ filter (has_key_from keyer a prefix key) es
   all_from [] low = refl
@@ -282,7 +283,7 @@ module _ (keyer : Keyer) (a : Archived) (prefix : ℕ) (key : List ℕ) where
       ∙ sym (ap (λ b. cond (not b) (e ∷ filter (has_key_from keyer a prefix key) es)
       (filter (has_key_from keyer a prefix key) es)) low.0)
 
-  pub behind_is : (n : ℕ) (es : List Entry)
+  pub behind_is : (n : ℕ) (es : List Posting)
       → AllByRecursion (λ e. is_gt (key_cmp keyer a prefix key e) ≡ true) (take n es)
       → AllByRecursion (λ e. is_gt (key_cmp keyer a prefix key e) ≡ false) (drop n es)
       → drop n es ≡ filter (has_key_from keyer a prefix key) es
@@ -294,7 +295,7 @@ module _ (keyer : Keyer) (a : Archived) (prefix : ℕ) (key : List ℕ) where
       (filter (has_key_from keyer a prefix key) es)) above.0)
 
 module _ (keyer : Keyer) (a : Archived) (prefix : ℕ) (key : Bor (List ℕ)) where
-  pub key_behind : (n : ℕ) (es : List Entry)
+  pub key_behind : (n : ℕ) (es : List Posting)
       → AllByRecursion (λ e. is_ahead keyer a (Before prefix key) e ≡ true) (take n es)
       → AllByRecursion (λ e. is_ahead keyer a (Before prefix key) e ≡ false) (drop n es)
       → drop n es ≡ filter (has_key_from keyer a prefix key.now) es

@@ -41,7 +41,7 @@ use Rattle.cb_index.specs.Rows.{is_named_from, scope_in, tags_from_name, tags_na
 use Rattle.cb_index.specs.Shelved.{IsIndexOf, with_facts}
 use Rattle.cb_index.specs.steps.Found.{scope_cut, tag_at, tag_in_text, tag_of_def}
 use Rattle.cb_index.specs.steps.Left.{entries_in, file_or_end}
-use Rattle.cb_index.specs.declared.entry.Entry.{Entry}
+use Rattle.cb_index.specs.declared.entry.Posting.{Posting}
 use Rattle.cb_index.specs.declared.entry.Shown.{Shown}
 use Rattle.cb_index.proofs.EntryLemmas.{bytes_cmp, sort_exact}
 use Rattle.cb_index.proofs.InOrderLemmas.{filter_kept, in_order_agree, map_in_order, same_order}
@@ -55,7 +55,8 @@ use Rattle.cb_index.proofs.RiseLemmas.{defs_rise, tags_rise}
 use Rattle.cb_index.proofs.TextLemmas.{text_there}
 
 -- ---- an index is in order
-pub again : (keyer : Keyer) (lister : Lister) (a : Archived) (shown : List Shown) (es : List Entry)
+pub again : (keyer : Keyer) (lister : Lister) (a : Archived) (shown : List Shown)
+    (es : List Posting)
     → IsIndexOf keyer lister a shown es → es ≡ in_order (sort_key keyer a) es
 again keyer lister a shown es is =
     is ∙ same_order (sort_key keyer a) (sort_exact keyer a) (all_entries lister a shown) es
@@ -92,7 +93,7 @@ split_and true c is = (refl, is)
 split_and false c is = absurd (false≢true is)
 
 module _ (keyer : Keyer) (a : Archived) where
-  pub ordered_cmp : (e f : Entry) → slice_cmp nat_cmp (sort_key keyer a e) (sort_key keyer a f)
+  pub ordered_cmp : (e f : Posting) → slice_cmp nat_cmp (sort_key keyer a e) (sort_key keyer a f)
       ≡ ordering_then (nat_cmp e.prefix f.prefix)
       (ordering_then (slice_cmp nat_cmp (key_of keyer a e) (key_of keyer a f))
       (slice_cmp nat_cmp (file_key a e) (file_key a f)))
@@ -100,7 +101,7 @@ module _ (keyer : Keyer) (a : Archived) where
   ordered_cmp e f = ap (ordering_then (nat_cmp e.prefix f.prefix)) (sym (bytes_cmp keyer a e f))
 
   -- entries of one key go by file and number
-  pub one_key : (prefix : ℕ) (key : List ℕ) (e f : Entry) → ComesFirst a e f
+  pub one_key : (prefix : ℕ) (key : List ℕ) (e f : Posting) → ComesFirst a e f
       → has_key keyer a prefix key e ≡ true
       → has_key keyer a prefix key f ≡ true → goes_first (sort_key keyer a) e f ≡ true
   one_key prefix key e f first has_e has_f =
@@ -121,7 +122,7 @@ module _ (keyer : Keyer) (a : Archived) where
       (ordering_then (key_tied i) (slice_cmp nat_cmp (file_key a e) (file_key a f)))) ∙ first)
 
   -- entries that have the prefixes of their keys go by key
-  by_key : (front : List ℕ → List ℕ) → GoesFirst front → (e f : Entry) → HasPrefix front keyer a e
+  by_key : (front : List ℕ → List ℕ) → GoesFirst front → (e f : Posting) → HasPrefix front keyer a e
       → HasPrefix front keyer a f
       → ComesFirst a e f → goes_first (sort_key keyer a) e f ≡ goes_first (key_of keyer a) e f
   by_key front front_first e f of_e of_f first =
@@ -143,7 +144,8 @@ module _ (keyer : Keyer) (a : Archived) where
   module _ (lister : Lister) (rising : (t : Option Scanned) → AreRising (lister t))
       (shown : List Shown) (up : AreAscending a shown) where
     -- the entries of a key in an index are those of the versions, one after the other
-    pub kept_key : (prefix : ℕ) (key : List ℕ) (es : List Entry) → IsIndexOf keyer lister a shown es
+    pub kept_key : (prefix : ℕ) (key : List ℕ) (es : List Posting)
+        → IsIndexOf keyer lister a shown es
         → filter (has_key keyer a prefix key) es
         ≡ filter (has_key keyer a prefix key) (all_entries lister a shown)
     kept_key prefix key es is =
@@ -152,14 +154,14 @@ module _ (keyer : Keyer) (a : Archived) where
         (ordered_with (ComesFirst a)
         (λ e f. has_key keyer a prefix key e ≡ true → has_key keyer a prefix key f ≡ true
         → goes_first (sort_key keyer a) e f ≡ true)
-        (λ (_ : Entry). Unit {0}) (λ e f _ _ first. one_key prefix key e f first)
+        (λ (_ : Posting). Unit {0}) (λ e f _ _ first. one_key prefix key e f first)
         (all_entries lister a shown) (all_any (all_entries lister a shown))
         (all_ordered a lister rising shown up))
 
     -- an index of entries that have the prefixes of their keys goes by key
     pub kept_order : (front : List ℕ → List ℕ) → GoesFirst front
         → AllByRecursion (HasPrefix front keyer a) (all_entries lister a shown)
-        → (es : List Entry) → IsIndexOf keyer lister a shown es
+        → (es : List Posting) → IsIndexOf keyer lister a shown es
         → es ≡ in_order (key_of keyer a) (all_entries lister a shown)
     kept_order front front_first told es is =
         is ∙ in_order_agree (sort_key keyer a) (key_of keyer a) (all_entries lister a shown)
@@ -191,10 +193,10 @@ key_file file number None = refl
 key_file file number (Some text) = found_file file text.bytes (slice_get (facts_of text).defs
     number)
 
-pub key_is_name : (a : Archived) (e : Entry) → key_of def_key a e ≡ (tag_at a e).name
+pub key_is_name : (a : Archived) (e : Posting) → key_of def_key a e ≡ (tag_at a e).name
 key_is_name a e = key_name (name_of a e.name) e.number (text_at a e.version)
 
-pub key_is_tag_name : (a : Archived) (e : Entry)
+pub key_is_tag_name : (a : Archived) (e : Posting)
     → key_of tag_key a e ≡ tag_name (tag_at a e).name (tag_at a e).file
 key_is_tag_name a e =
     λ i. tag_name (key_name (name_of a e.name) e.number (text_at a e.version) i)
@@ -217,7 +219,7 @@ module _ (a : Archived) (s : Shown) (text : Scanned)
   abbrev file : File
   file = record { name = name_of a s.name; bytes = text.bytes }
 
-  abbrev entry : ℕ → ℕ → Entry
+  abbrev entry : ℕ → ℕ → Posting
   entry prefix n =
       record { prefix = prefix; name = s.name; version = s.version; number = n; rows = 1 }
 
@@ -341,7 +343,7 @@ module _ (a : Archived) where
       ++ all_tags_named name shown all.1 i)
 
   module _ (shown : List Shown) (all : AllByRecursion (IsThere a) shown) (up : AreAscending a shown)
-      (es : List Entry) where
+      (es : List Posting) where
     module _ (bytes : AllByRecursion AreBytes a.texts) where
       pub rows_by_name : IsIndexOf def_key defs_listed a shown es
           → map (tag_at a) es ≡ tags_by_name a.profile (files_of a shown)

@@ -20,7 +20,7 @@ use Rattle.cb_index.specs.Orders.{tag_front, tag_key, tag_key_prefix, tag_prefix
 use Rattle.cb_index.specs.RowOrders.{Counter, row_under, rows_with}
 use Rattle.cb_index.specs.Spreads.{SpreadsBy, SpreadsInto}
 use Rattle.cb_index.specs.steps.Spread.{items_in_text, rows_at, rows_in}
-use Rattle.cb_index.specs.declared.entry.Entry.{Entry}
+use Rattle.cb_index.specs.declared.entry.Posting.{Posting}
 use Rattle.cb_index.specs.declared.entry.Shown.{Shown}
 use Rattle.cb_index.specs.declared.entry.FactKind.{FactKind}
 use Rattle.cb_index.specs.declared.entry.FactKind.TheVariants.{Uses, Callees, Callers}
@@ -56,7 +56,7 @@ module _ (a : Archived) (s : Shown) (text : Scanned)
   -- where an entry is a definition
   module _ (front : List ℕ → List ℕ) (keyer : Keyer) (prefixed : List ℕ → Def → ℕ)
       (told : IsTold front keyer prefixed) where
-    abbrev has_front : Entry → Bool
+    abbrev has_front : Posting → Bool
     has_front e = has_key keyer a (key_prefix (front key)) key e
 
     def_rows : (n : ℕ) (ds : List Def) → drop n (facts_of text).defs ≡ ds
@@ -69,7 +69,7 @@ module _ (a : Archived) (s : Shown) (text : Scanned)
     def_rows n (d ∷ ds) is =
         let has : ℕ → Bool = λ item.
         bytes_eq key (keyer (text_at a s.version) (name_of a s.name) item) in
-        let e : Entry = record {
+        let e : Posting = record {
           prefix = prefixed text.bytes d;
           name = s.name;
           version = s.version;
@@ -85,7 +85,7 @@ module _ (a : Archived) (s : Shown) (text : Scanned)
         (def_rows (suc n) ds (drop_next n (facts_of text).defs ∙ ap (drop 1) is))
         ∙ sym (ap (λ l. map (row_under s) (filter has l)) (range_next n (length ds)))
       where
-        step : (b : Bool) (e : Entry) (es : List Entry) (n : ℕ) (items : List ℕ)
+        step : (b : Bool) (e : Posting) (es : List Posting) (n : ℕ) (items : List ℕ)
             → rows_at None a e ≡ row_under s n ∷ [] → rows_in None a es ≡ map (row_under s) items
             → rows_in None a (cond b (e ∷ es) es) ≡ map (row_under s) (cond b (n ∷ items) items)
         step true e es n items here later = λ i. here i ++ later i

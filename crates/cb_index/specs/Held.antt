@@ -4,20 +4,20 @@ use Rattle.std.specs.List.{flat_map}
 use Rattle.cb_scan.specs.Order.{AreOrdered}
 use Rattle.cb_index.specs.Archived.{Archived, text_at}
 use Rattle.cb_index.specs.Scanned.{Scanned}
-use Rattle.cb_index.specs.declared.entry.Entry.{Entry}
+use Rattle.cb_index.specs.declared.entry.Posting.{Posting}
 use Rattle.cb_index.specs.declared.entry.Shown.{Shown}
 use Rattle.cb_index.specs.declared.entry.IndexKind.{IndexKind}
 
 -- the entries in order, and for how many there is room
 pub record Held : Type 0 where
-  pub entries : List Entry
+  pub entries : List Posting
   pub room : ℕ
 
 -- an index of a kind: the entries that it holds in order, the versions whose entries are pending,
 -- and for how many entries and versions there is room
 pub record Indexed : Type 0 where
   pub kind : IndexKind
-  pub held : List Entry
+  pub held : List Posting
   pub pending : List Shown
   pub room : ℕ
   pub version_room : ℕ
@@ -42,7 +42,7 @@ abbrev pub listed_of : Lister → Archived → ℕ → List Listed
 listed_of lister a version = lister (text_at a version)
 
 -- the entry of an item of a version under a name
-abbrev pub entry_of : Shown → Listed → Entry
+abbrev pub entry_of : Shown → Listed → Posting
 entry_of s item = record {
   prefix = item.prefix;
   name = s.name;
@@ -52,9 +52,9 @@ entry_of s item = record {
 }
 
 -- the entries of a version under a name
-abbrev pub entries_of : Lister → Archived → Shown → List Entry
+abbrev pub entries_of : Lister → Archived → Shown → List Posting
 entries_of lister a s = map (entry_of s) (listed_of lister a s.version)
 
 -- the entries of all versions that are shown
-abbrev pub all_entries : Lister → Archived → List Shown → List Entry
+abbrev pub all_entries : Lister → Archived → List Shown → List Posting
 all_entries lister a shown = flat_map (entries_of lister a) shown

@@ -14,7 +14,7 @@ use Rattle.cb_index.specs.Firsts.{firsts}
 use Rattle.cb_index.specs.Held.{Listed, Lister, entry_of}
 use Rattle.cb_index.specs.Items.{item_key}
 use Rattle.cb_index.specs.Scanned.{Scanned, facts_of}
-use Rattle.cb_index.specs.declared.entry.Entry.{Entry}
+use Rattle.cb_index.specs.declared.entry.Posting.{Posting}
 use Rattle.cb_index.specs.declared.entry.Shown.{Shown}
 use Rattle.cb_index.specs.declared.entry.FactKind.{FactKind}
 
@@ -79,7 +79,7 @@ prefixed false = def_prefix
 prefixed true = tag_prefix
 
 -- the entry of a definition of a version under a name
-abbrev pub def_entry : Bool → List ℕ → Shown → ℕ → Def → Entry
+abbrev pub def_entry : Bool → List ℕ → Shown → ℕ → Def → Posting
 def_entry by_tag_name text s number d =
     entry_of s (record { number = number; prefix = prefixed by_tag_name text d; rows = 1 })
 

@@ -12,7 +12,7 @@ use Rattle.cb_index.specs.Files.{AreApart, AreAscending, File, IsThere, call_cou
 use Rattle.cb_index.specs.Files.{files_of, is_shown, shown_name, total, use_count}
 use Rattle.cb_index.specs.Held.{Indexed, Lister, all_entries}
 use Rattle.cb_index.specs.Kinds.{all_kinds, keyer_of, lister_of}
-use Rattle.cb_index.specs.declared.entry.Entry.{Entry}
+use Rattle.cb_index.specs.declared.entry.Posting.{Posting}
 use Rattle.cb_index.specs.declared.entry.Shown.{Shown}
 use Rattle.cb_index.specs.declared.entry.FactKind.TheVariants.{Uses, Callees, Callers}
 use Rattle.cb_index.specs.declared.entry.IndexKind.{IndexKind}
@@ -65,7 +65,7 @@ pub record KeepsRoom (old new : Shelved) : Type 0 where
   pub calls : old.call_room ≤ new.call_room
 
 -- an index holds the entries of all that is shown, in order
-abbrev pub IsIndexOf : Keyer → Lister → Archived → List Shown → List Entry → Type 0
+abbrev pub IsIndexOf : Keyer → Lister → Archived → List Shown → List Posting → Type 0
 IsIndexOf keyer lister a shown es =
     es ≡ in_order (sort_key keyer a) (all_entries lister a shown)
 

@@ -11,7 +11,7 @@ use Rattle.cb_index.specs.Kinds.{fact_kind, keyer_of, lister_of, prefix_of}
 use Rattle.cb_index.specs.RowOrders.{Counter, row_order, rows_with}
 use Rattle.cb_index.specs.Shelved.{IsIndexOf}
 use Rattle.cb_index.specs.steps.Spread.{rows_in}
-use Rattle.cb_index.specs.declared.entry.Entry.{Entry}
+use Rattle.cb_index.specs.declared.entry.Posting.{Posting}
 use Rattle.cb_index.specs.declared.entry.Shown.{Shown}
 use Rattle.cb_index.specs.declared.entry.FactKind.{FactKind}
 use Rattle.cb_index.specs.declared.entry.IndexKind.{IndexKind}
@@ -21,7 +21,7 @@ use Rattle.cb_index.specs.declared.sorted.Row.{Row}
 -- file name and then by item
 abbrev pub SpreadsBy : Keyer → Lister → (List ℕ → ℕ) → Option FactKind → Counter → Type 0
 SpreadsBy keyer lister prefix sort count =
-    (a : Archived) (shown : List Shown) (key : List ℕ) (es : List Entry)
+    (a : Archived) (shown : List Shown) (key : List ℕ) (es : List Posting)
     → AllByRecursion (IsThere a) shown → AreAscending a shown → IsIndexOf keyer lister a shown es
     → rows_in sort a (filter (has_key keyer a (prefix key) key) es)
     ≡ flat_map (rows_with keyer count a key) shown
@@ -38,7 +38,7 @@ abbrev pub rows_of_key : IndexKind → Archived → List ℕ → List Shown → 
 rows_of_key kind a key shown = flat_map (rows_with (keyer_of kind) (count_for kind) a key) shown
 
 -- an index holds the rows of these files, which are there and whose names ascend
-pub record HoldsRowsOf (kind : IndexKind) (a : Archived) (shown : List Shown) (es : List Entry) :
+pub record HoldsRowsOf (kind : IndexKind) (a : Archived) (shown : List Shown) (es : List Posting) :
     Type 0 where
   pub there : AllByRecursion (IsThere a) shown
   pub ascending : AreAscending a shown

@@ -1,5 +1,5 @@
-//! What is kept in blocks: blocks, and places in them, found by binary search; what is lent of them;
-//! and lists of all of them.
+//! What is kept in blocks: blocks, and places in them, found by binary search; what is lent
+//! from them; and lists in blocks.
 ghost use Rattle.std.specs.List.{AllByRecursion, insert};
 ghost use Rattle.std.specs.List.Sorted.{IsPartitionPoint, IsPartitionedBy, IsStrictlyIncreasing};
 ghost use Rattle.std.specs.Prelude.{◌≡◌, ◌<◌, ◌≤◌, ◌+◌, ◌*◌, ◌++◌, ◌∷◌, [], IfOk, OnOk, drop};
@@ -12,7 +12,7 @@ ghost use Rattle.cb_index.specs.Names.{is_among, names_of};
 ghost use Rattle.cb_index.specs.declared.blocks.TheConstants.{HALF, SIZE};
 
 use crate::archive::OutOfMemory;
-use crate::entry::{Entry, Shown};
+use crate::entry::{Posting, Shown};
 use std::alloc::{AllocError, Global};
 use std::cmp::Ordering;
 use std::marker::Model;
@@ -190,7 +190,7 @@ fn count_begun<T: Copy, B: Bound<T>>(bound: &B, blocks: &[Block<T>]) -> usize
 }
 
 /// The place of a bound in blocks: in the last one that begins ahead of it, else at the start.
-pub(crate) fn place_of<T: Copy, B: Bound<T>>(bound: &B, blocks: &[Block<T>]) -> Place
+pub(crate) fn lower_bound<T: Copy, B: Bound<T>>(bound: &B, blocks: &[Block<T>]) -> Place
     requires parted { AreParted (B.is_ahead bound.now) (joined blocks.now) }
     requires filled { AllByRecursion IsFilled blocks.now }
     ensures { IsPlaceOf (B.is_ahead bound.now) blocks.now result.block result.at }
@@ -625,7 +625,7 @@ pub(crate) trait Named {
         ensures { result ≡ number_of self.now };
 }
 
-impl Named for Entry {
+impl Named for Posting {
     ghost number_of = { λ e. e.name };
 
     fn number(&self) -> u32 {

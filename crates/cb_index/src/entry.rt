@@ -23,11 +23,11 @@ pub enum IndexKind {
     Facts(FactKind),
 }
 
-/// An entry of an index: a posting (for uses and calls) or a definition, by its number in a version
-/// that is kept under a name. The prefix is the first eight bytes of its key as a big-endian
+/// An entry of an index: a definition, or the first use or call of a key, by its number in a
+/// version that is kept under a name. The prefix is the first eight bytes of its key as a big-endian
 /// number.
 #[derive(Clone, Copy, Debug, PartialEq, Eq)]
-pub struct Entry {
+pub struct Posting {
     pub prefix: u64,
     pub name: u32,
     pub version: u32,

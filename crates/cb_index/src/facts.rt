@@ -13,11 +13,11 @@ ghost use Rattle.cb_index.specs.steps.Left.{facts_new, group_left, group_count, 
 ghost use Rattle.cb_index.specs.steps.Left.{groups_left, rows_counted, spots_left, walk_left};
 ghost use Rattle.cb_index.specs.steps.Runs.{run_items};
 ghost use Rattle.cb_index.specs.steps.ShownIn.{shown_in};
-ghost use Rattle.cb_index.specs.declared.entry.Entry.{Entry};
+ghost use Rattle.cb_index.specs.declared.entry.Posting.{Posting};
 
 use crate::archive::{Archive, Version};
 use crate::blocks::Run;
-use crate::entry::{Entry, FactKind, Shown};
+use crate::entry::{FactKind, Posting, Shown};
 use crate::files::ShownFiles;
 use crate::items::{Chain, item_count, item_key, row_count};
 use crate::repeats::take_given;
@@ -34,7 +34,7 @@ pub(crate) struct Group<'a> {
 #[derive(Clone, Copy)]
 pub(crate) enum Groups<'a, 'p> {
     /// In the entries of an index.
-    Held(Run<'a, Entry>),
+    Held(Run<'a, Posting>),
     /// By a search for the key in each of these files.
     Searched(&'p [u8], ShownFiles<'a>),
 }
@@ -62,7 +62,7 @@ pub struct FactRows<'a, 'p> {
 }
 
 /// The facts of an entry, if its version is there.
-fn group_of<'a>(sort: FactKind, archive: &'a Archive, entry: Entry) -> Option<Group<'a>>
+fn group_of<'a>(sort: FactKind, archive: &'a Archive, entry: Posting) -> Option<Group<'a>>
     ensures { (all : Bool) → group_left_if all result ≡ given_at all sort archive.now entry }
 {
     let version = archive.version(entry.version)?;
@@ -207,13 +207,13 @@ impl<'a, 'p> FactRows<'a, 'p> {
     pub(crate) fn held(
         sort: FactKind,
         archive: &'a Archive,
-        entries: Run<'a, Entry>,
+        entries: Run<'a, Posting>,
     ) -> FactRows<'a, 'p>
         ensures rows { facts_left result ≡ facts_in sort archive.now (run_items entries.entry) }
         ensures new { facts_new result
             ≡ given_in false sort archive.now (run_items entries.entry) }
         ensures counted { facts_counted result
-            ≡ sum_by (λ (e : Entry). e.rows) (run_items entries.entry) }
+            ≡ sum_by (λ (e : Posting). e.rows) (run_items entries.entry) }
     {
         FactRows {
             walk: Walk {
@@ -266,8 +266,8 @@ impl<'a, 'p> FactRows<'a, 'p> {
 }
 
 /// How many rows entries stand for.
-fn count_held(entries: Run<'_, Entry>) -> u128
-    ensures { result ≡ sum_by (λ (e : Entry). e.rows) (run_items entries.entry) }
+fn count_held(entries: Run<'_, Posting>) -> u128
+    ensures { result ≡ sum_by (λ (e : Posting). e.rows) (run_items entries.entry) }
 {
     let mut count = 0;
     let mut left = entries;

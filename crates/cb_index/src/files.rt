@@ -14,7 +14,7 @@ ghost use Rattle.cb_index.specs.declared.entry.Shown.{Shown};
 ghost use Rattle.cb_index.specs.steps.Compact.{IsAmong};
 
 use crate::archive::Archive;
-use crate::blocks::{Block, count_ahead, place_of};
+use crate::blocks::{Block, count_ahead, lower_bound};
 use crate::entry::Shown;
 use crate::shown::BeforeName;
 
@@ -103,7 +103,7 @@ impl<'a> ShownFiles<'a> {
                 blocks: self.blocks,
             };
         }
-        let place = place_of(&bound, self.blocks);
+        let place = lower_bound(&bound, self.blocks);
         ShownFiles {
             first: self.blocks[place.block].items().split_at(place.at).1,
             blocks: self.blocks.split_at(place.block + 1).1,

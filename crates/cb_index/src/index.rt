@@ -1,5 +1,5 @@
-//! The five indexes: of each the entries in the order of its kind, and the versions that are pending
-//! until a question comes.
+//! The five indexes: of each the entries in the order of its kind, and the versions that are
+//! pending until a question comes.
 ghost use Rattle.std.specs.Prelude.{◌≡◌, ◌≤◌, ◌+◌, ◌++◌, ◌∷◌, [], List, OnOk, Some, false};
 ghost use Rattle.std.specs.Prelude.{filter, length, true, vec_capacity};
 ghost use Rattle.std.specs.List.{AllByRecursion};
@@ -12,7 +12,7 @@ ghost use Rattle.cb_index.specs.Held.{Indexed, all_entries, entries_of, listed_o
 ghost use Rattle.cb_index.specs.Kinds.{keyer_of, lister_of, prefix_of};
 ghost use Rattle.cb_index.specs.Names.{names_of};
 ghost use Rattle.cb_index.specs.Shelved.{HasRoom, IsIndex, room_for};
-ghost use Rattle.cb_index.specs.declared.entry.Entry.{Entry};
+ghost use Rattle.cb_index.specs.declared.entry.Posting.{Posting};
 ghost use Rattle.cb_index.specs.declared.entry.Shown.{Shown};
 ghost use Rattle.cb_index.specs.steps.Lists.{Fit};
 ghost use Rattle.cb_index.specs.steps.Moves.{Become, CanTakeIn, LetsGo, LetsGoAll, StaysItself};
@@ -21,8 +21,8 @@ ghost use Rattle.cb_index.specs.steps.Runs.{run_items};
 ghost use Rattle.cb_index.specs.steps.ToCome.{is_asked};
 
 use crate::archive::{Archive, OutOfMemory};
-use crate::blocks::{BlockList, Blocks, Place, Run, place_of, take_named};
-use crate::entry::{Asked, Entry, FactKind, IndexKind, Shown};
+use crate::blocks::{BlockList, Blocks, Place, Run, lower_bound, take_named};
+use crate::entry::{Asked, FactKind, IndexKind, Posting, Shown};
 use crate::links::Mention;
 use crate::order::{EntryBound, Side, append, compare, count, prefix};
 use crate::shelf::Room;
@@ -43,7 +43,7 @@ const FEW: usize = 5;
 const FEW_GONE: usize = 256;
 
 /// Whether an entry does not come after another.
-fn goes_first(kind: IndexKind, archive: &Archive, a: Entry, b: Entry) -> bool
+fn goes_first(kind: IndexKind, archive: &Archive, a: Posting, b: Posting) -> bool
     ensures { result ≡ goes_first (sort_key (keyer_of kind) archive.now) a b }
 {
     compare(kind, archive, a, b) != Ordering::Greater
@@ -63,7 +63,7 @@ fn are_few(kind: IndexKind, archive: &Archive, shown: &[Shown], held: usize) -> 
 }
 
 /// Appends the entries of versions, in the room that is there.
-fn append_each(kind: IndexKind, archive: &Archive, shown: &[Shown], entries: &mut Vec<Entry>)
+fn append_each(kind: IndexKind, archive: &Archive, shown: &[Shown], entries: &mut Vec<Posting>)
     requires { length entries.old.items
         + length (all_entries (lister_of kind) archive.now shown.now)
         ≤ vec_capacity entries.old }
@@ -77,7 +77,7 @@ fn append_each(kind: IndexKind, archive: &Archive, shown: &[Shown], entries: &mu
 }
 
 /// Puts an entry between the others; not where a block is wanted and none is left.
-fn try_put(kind: IndexKind, archive: &Archive, one: Entry, blocks: &mut Blocks<Entry>) -> bool
+fn try_put(kind: IndexKind, archive: &Archive, one: Posting, blocks: &mut Blocks<Posting>) -> bool
     requires { joined blocks.old.used
         ≡ in_order (sort_key (keyer_of kind) archive.now) (joined blocks.old.used) }
     ensures put { result ≡ true → joined blocks.new.used
@@ -90,15 +90,15 @@ fn try_put(kind: IndexKind, archive: &Archive, one: Entry, blocks: &mut Blocks<E
         archive,
         side: Side::Behind(one),
     };
-    let place = place_of(&bound, blocks.used());
+    let place = lower_bound(&bound, blocks.used());
     blocks.try_insert(place, one)
 }
 
 /// Takes away an entry that is there.
-fn take_one(kind: IndexKind, archive: &Archive, one: Entry, blocks: &mut Blocks<Entry>)
-    requires { (rest : List Entry)
+fn take_one(kind: IndexKind, archive: &Archive, one: Posting, blocks: &mut Blocks<Posting>)
+    requires { (rest : List Posting)
         × (joined blocks.old.used ≡ in_order (sort_key (keyer_of kind) archive.now) (one ∷ rest)) }
-    ensures taken { (rest : List Entry)
+    ensures taken { (rest : List Posting)
         → joined blocks.old.used ≡ in_order (sort_key (keyer_of kind) archive.now) (one ∷ rest)
         → joined blocks.new.used ≡ in_order (sort_key (keyer_of kind) archive.now) rest }
     ensures count { blocks.new.count ≡ blocks.old.count }
@@ -108,7 +108,7 @@ fn take_one(kind: IndexKind, archive: &Archive, one: Entry, blocks: &mut Blocks<
         archive,
         side: Side::Behind(one),
     };
-    let place = place_of(&bound, blocks.used());
+    let place = lower_bound(&bound, blocks.used());
     if place.at == 0 {
         unreachable!()
     }
@@ -119,7 +119,12 @@ fn take_one(kind: IndexKind, archive: &Archive, one: Entry, blocks: &mut Blocks<
 }
 
 /// Puts entries between the others, one after another; all together from where no block is left.
-fn put_rest(kind: IndexKind, archive: &Archive, news: &mut Vec<Entry>, blocks: &mut Blocks<Entry>)
+fn put_rest(
+    kind: IndexKind,
+    archive: &Archive,
+    news: &mut Vec<Posting>,
+    blocks: &mut Blocks<Posting>,
+)
     requires order { joined blocks.old.used
         ≡ in_order (sort_key (keyer_of kind) archive.now) (joined blocks.old.used) }
     requires fits { Fit (length news.old.items + length (joined blocks.old.used))
@@ -142,10 +147,15 @@ fn put_rest(kind: IndexKind, archive: &Archive, news: &mut Vec<Entry>, blocks: &
 }
 
 /// Takes entries away that are there.
-fn take_rest(kind: IndexKind, archive: &Archive, gone: &mut Vec<Entry>, blocks: &mut Blocks<Entry>)
-    requires { (rest : List Entry) × (joined blocks.old.used
+fn take_rest(
+    kind: IndexKind,
+    archive: &Archive,
+    gone: &mut Vec<Posting>,
+    blocks: &mut Blocks<Posting>,
+)
+    requires { (rest : List Posting) × (joined blocks.old.used
         ≡ in_order (sort_key (keyer_of kind) archive.now) (gone.old.items ++ rest)) }
-    ensures taken { (rest : List Entry)
+    ensures taken { (rest : List Posting)
         → joined blocks.old.used
         ≡ in_order (sort_key (keyer_of kind) archive.now) (gone.old.items ++ rest)
         → joined blocks.new.used ≡ in_order (sort_key (keyer_of kind) archive.now) rest }
@@ -158,7 +168,7 @@ fn take_rest(kind: IndexKind, archive: &Archive, gone: &mut Vec<Entry>, blocks: 
 }
 
 /// The entries of the versions that were put, in the order of one kind, which each call is told.
-impl BlockList<Entry> {
+impl BlockList<Posting> {
     /// Whether the entries are in order in an archive. They are in the one from which all were put,
     /// whatever was pushed there since.
     pub(crate) fn is_in_order(&self, kind: IndexKind, archive: &Archive) -> bool
@@ -227,10 +237,10 @@ impl BlockList<Entry> {
     /// Takes away the entries of a version under a name, all of which are there, one after another.
     /// It takes no memory, and the room stays.
     pub(crate) fn take_all(&mut self, kind: IndexKind, archive: &Archive, shown: Shown)
-        requires { (rest : List Entry)
+        requires { (rest : List Posting)
             × (self.old.items ≡ in_order (sort_key (keyer_of kind) archive.now)
             (entries_of (lister_of kind) archive.now shown ++ rest)) }
-        ensures entries { (rest : List Entry)
+        ensures entries { (rest : List Posting)
             → self.old.items ≡ in_order (sort_key (keyer_of kind) archive.now)
             (entries_of (lister_of kind) archive.now shown ++ rest)
             → self.new.items ≡ in_order (sort_key (keyer_of kind) archive.now) rest }
@@ -242,7 +252,12 @@ impl BlockList<Entry> {
     }
 
     /// The entries that have the key, in order.
-    pub(crate) fn with_key(&self, kind: IndexKind, archive: &Archive, key: &[u8]) -> Run<'_, Entry>
+    pub(crate) fn with_key(
+        &self,
+        kind: IndexKind,
+        archive: &Archive,
+        key: &[u8],
+    ) -> Run<'_, Posting>
         requires { self.now.items
             ≡ in_order (sort_key (keyer_of kind) archive.now) self.now.items }
         ensures { run_items result
@@ -262,13 +277,18 @@ impl BlockList<Entry> {
             archive,
             side: Side::After(prefix, key),
         };
-        let from = place_of(&before, blocks);
-        let to = place_of(&after, blocks);
+        let from = lower_bound(&before, blocks);
+        let to = lower_bound(&after, blocks);
         Run::between(blocks, from, to)
     }
 
     /// The entries whose keys are not less than this one, in order.
-    pub(crate) fn from_key(&self, kind: IndexKind, archive: &Archive, key: &[u8]) -> Run<'_, Entry>
+    pub(crate) fn from_key(
+        &self,
+        kind: IndexKind,
+        archive: &Archive,
+        key: &[u8],
+    ) -> Run<'_, Posting>
         requires { self.now.items
             ≡ in_order (sort_key (keyer_of kind) archive.now) self.now.items }
         ensures { run_items result
@@ -283,7 +303,7 @@ impl BlockList<Entry> {
             archive,
             side: Side::Before(prefix, key),
         };
-        Run::after(blocks, place_of(&before, blocks))
+        Run::after(blocks, lower_bound(&before, blocks))
     }
 }
 
@@ -294,7 +314,7 @@ impl BlockList<Entry> {
 #[derive(Drop)]
 pub(crate) struct Index {
     kind: IndexKind,
-    postings: BlockList<Entry>,
+    postings: BlockList<Posting>,
     pending: Vec<Shown>,
 }
 
@@ -434,7 +454,7 @@ impl Index {
     }
 
     /// The entries that are held, in order: those that are asked for.
-    pub(crate) fn asked(&self, archive: &Archive, asked: Asked<'_>) -> Run<'_, Entry>
+    pub(crate) fn asked(&self, archive: &Archive, asked: Asked<'_>) -> Run<'_, Posting>
         requires { self.now.held
             ≡ in_order (sort_key (keyer_of self.now.kind) archive.now) self.now.held }
         ensures { run_items result

@@ -15,7 +15,7 @@ ghost use Rattle.cb_index.specs.Kinds.{keyer_of};
 ghost use Rattle.cb_index.specs.RowOrders.{row_key, row_order};
 ghost use Rattle.cb_index.specs.Rows.{facts_named};
 ghost use Rattle.cb_index.specs.Spreads.{RowsAscend, SpreadsInto};
-ghost use Rattle.cb_index.specs.declared.entry.Entry.{Entry};
+ghost use Rattle.cb_index.specs.declared.entry.Posting.{Posting};
 ghost use Rattle.cb_index.specs.declared.entry.FactKind.{FactKind};
 ghost use Rattle.cb_index.specs.declared.entry.IndexKind.{IndexKind};
 ghost use Rattle.cb_index.specs.declared.sorted.Row.{Row};
@@ -30,7 +30,7 @@ pub fn orders_are_total()
 
 /// Two entries are equal in an order only if they are the same entry.
 pub fn equal_entries_are_one()
-    ensures { (kind : IndexKind) (a : Archived) (e f : Entry)
+    ensures { (kind : IndexKind) (a : Archived) (e f : Posting)
         → slice_cmp nat_cmp (sort_key (keyer_of kind) a e) (sort_key (keyer_of kind) a f) ≡ Equal
         → e ≡ f }
 {}

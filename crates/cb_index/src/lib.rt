@@ -30,7 +30,7 @@ mod index;
 mod order;
 mod sort;
 
-// What is kept in blocks: places in them, what is lent of them, and lists of them.
+// What is kept in blocks: places in them, what is lent from them, and lists in blocks.
 mod blocks;
 
 // The uses and calls of one key in a version, the links between them, and those whose rows are
@@ -44,7 +44,7 @@ pub mod laws;
 mod sorted;
 
 pub use archive::{Archive, OutOfMemory, Version};
-pub use entry::{Entry, FactKind, IndexKind, Shown};
+pub use entry::{FactKind, IndexKind, Posting, Shown};
 pub use facts::{FactRows, FactSpots};
 pub use files::ShownFiles;
 pub use includes::{Entries, IncludeRows};

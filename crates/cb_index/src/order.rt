@@ -1,7 +1,7 @@
 //! The keys and the entries of a version, how two entries compare, and bounds among them, each by
-//! the kind of an index. Entries compare by prefix, key, file name and then by their own numbers. Key
-//! and name are looked up in the archive; so what is pushed there changes nothing of the order of
-//! entries that are held. Of one key in one file the numbers go by place.
+//! the kind of an index. Entries compare by prefix, key, file name and then by their own numbers.
+//! Key and name are looked up in the archive; so what is pushed there changes nothing of the order
+//! of entries that are held. Of one key in one file the numbers go by place.
 ghost use Rattle.std.specs.Prelude.{◌≡◌, ◌<◌, ◌≤◌, ◌+◌, ◌^◌, ◌++◌, [], ℕ, IfSome, List, length};
 ghost use Rattle.std.specs.Prelude.{map, vec_capacity, vec_len};
 ghost use Rattle.std.specs.Cmp.Lexicographic.{slice_cmp};
@@ -18,7 +18,7 @@ ghost use Rattle.cb_index.specs.Scanned.{facts_of};
 
 use crate::archive::{Archive, Version, bytes_at, compare_by_words, cut};
 use crate::blocks::Bound;
-use crate::entry::{Entry, FactKind, IndexKind, Shown};
+use crate::entry::{FactKind, IndexKind, Posting, Shown};
 use crate::items::{is_first, item_count, item_key, row_count};
 use cb_scan::{Def, Facts, Span, key_prefix};
 use cb_tags::{compare_tag_key, compare_tag_names};
@@ -67,7 +67,7 @@ fn plain_name(name: &[u8]) -> Option<&[u8]>
 }
 
 /// The key of an entry where that stands in a text.
-pub(crate) fn plain_key(kind: IndexKind, archive: &Archive, entry: Entry) -> Option<&[u8]>
+pub(crate) fn plain_key(kind: IndexKind, archive: &Archive, entry: Posting) -> Option<&[u8]>
     ensures { IfSome result (λ key. key.now ≡ key_of (keyer_of kind) archive.now entry) }
 {
     match kind {
@@ -78,7 +78,7 @@ pub(crate) fn plain_key(kind: IndexKind, archive: &Archive, entry: Entry) -> Opt
 }
 
 /// The order of the keys of two entries by their bytes.
-pub(crate) fn compare_keys(kind: IndexKind, archive: &Archive, a: Entry, b: Entry) -> Ordering
+pub(crate) fn compare_keys(kind: IndexKind, archive: &Archive, a: Posting, b: Posting) -> Ordering
     ensures { result ≡ slice_cmp nat_cmp (key_of (keyer_of kind) archive.now a)
         (key_of (keyer_of kind) archive.now b) }
 {
@@ -105,7 +105,7 @@ pub(crate) fn compare_key_bytes(
     kind: IndexKind,
     archive: &Archive,
     key: &[u8],
-    entry: Entry,
+    entry: Posting,
 ) -> Ordering
     ensures { result ≡ slice_cmp nat_cmp key.now (key_of (keyer_of kind) archive.now entry) }
 {
@@ -157,7 +157,7 @@ pub(crate) fn prefix(kind: IndexKind, key: &[u8]) -> u64
 
 /// Appends the entries of a version under a name: an item for each key, the first that
 /// has it.
-fn append_firsts(kind: FactKind, version: &Version, shown: Shown, entries: &mut Vec<Entry>)
+fn append_firsts(kind: FactKind, version: &Version, shown: Shown, entries: &mut Vec<Posting>)
     requires { vec_len entries.old + length (firsts kind version.now) ≤ vec_capacity entries.old }
     ensures entries { entries.new.items
         ≡ entries.old.items ++ map (entry_of shown) (firsts kind version.now) }
@@ -165,7 +165,7 @@ fn append_firsts(kind: FactKind, version: &Version, shown: Shown, entries: &mut 
 {
     for item in 0..item_count(kind, version) {
         if is_first(kind, version, item as u32) {
-            let entry = Entry {
+            let entry = Posting {
                 prefix: key_prefix(item_key(kind, version, item as u32)),
                 name: shown.name,
                 version: shown.version,
@@ -219,7 +219,7 @@ pub(crate) fn def_entry(
     def: &Def,
     shown: Shown,
     number: u32,
-) -> Entry
+) -> Posting
     ensures { result ≡ def_entry by_tag_name text.now shown number def.now }
 {
     let prefix = if by_tag_name {
@@ -227,7 +227,7 @@ pub(crate) fn def_entry(
     } else {
         def_prefix(text, def)
     };
-    Entry {
+    Posting {
         prefix,
         name: shown.name,
         version: shown.version,
@@ -238,7 +238,13 @@ pub(crate) fn def_entry(
 
 /// Appends the entries of definitions, with the prefixes of their names or, if so, of
 /// their tag names.
-fn append_defs(by_tag_name: bool, text: &[u8], defs: &[Def], shown: Shown, entries: &mut Vec<Entry>)
+fn append_defs(
+    by_tag_name: bool,
+    text: &[u8],
+    defs: &[Def],
+    shown: Shown,
+    entries: &mut Vec<Posting>,
+)
     requires room { vec_len entries.old + length defs.now ≤ vec_capacity entries.old }
     requires few { length defs.now < 2 ^ 32 }
     ensures entries { entries.new.items ≡ entries.old.items
@@ -265,7 +271,7 @@ pub(crate) fn count(kind: IndexKind, archive: &Archive, version: u32) -> usize
 }
 
 /// Appends the entries of a version under a name, in the room that is there.
-pub(crate) fn append(kind: IndexKind, archive: &Archive, shown: Shown, entries: &mut Vec<Entry>)
+pub(crate) fn append(kind: IndexKind, archive: &Archive, shown: Shown, entries: &mut Vec<Posting>)
     requires { vec_len entries.old + length (listed_of (lister_of kind) archive.now shown.version)
         ≤ vec_capacity entries.old }
     ensures entries { entries.new.items
@@ -285,14 +291,14 @@ pub(crate) fn append(kind: IndexKind, archive: &Archive, shown: Shown, entries: 
 
 // ---- the order of entries
 
-fn numbers(entry: Entry) -> [u32; 4]
+fn numbers(entry: Posting) -> [u32; 4]
     ensures { result ≡ numbers entry }
 {
     [entry.name, entry.version, entry.number, entry.rows]
 }
 
 /// The order of two entries with one key.
-fn compare_files(archive: &Archive, a: Entry, b: Entry) -> Ordering
+fn compare_files(archive: &Archive, a: Posting, b: Posting) -> Ordering
     ensures { result ≡ slice_cmp nat_cmp (file_key archive.now a) (file_key archive.now b) }
 {
     match compare_by_words(archive.name(a.name), archive.name(b.name)) {
@@ -302,7 +308,7 @@ fn compare_files(archive: &Archive, a: Entry, b: Entry) -> Ordering
 }
 
 /// The order of two entries with one prefix.
-fn compare_bytes(kind: IndexKind, archive: &Archive, a: Entry, b: Entry) -> Ordering
+fn compare_bytes(kind: IndexKind, archive: &Archive, a: Posting, b: Posting) -> Ordering
     ensures { result
         ≡ slice_cmp nat_cmp (bytes_key (keyer_of kind) archive.now a)
         (bytes_key (keyer_of kind) archive.now b) }
@@ -314,7 +320,7 @@ fn compare_bytes(kind: IndexKind, archive: &Archive, a: Entry, b: Entry) -> Orde
 }
 
 /// The order of two entries.
-pub(crate) fn compare(kind: IndexKind, archive: &Archive, a: Entry, b: Entry) -> Ordering
+pub(crate) fn compare(kind: IndexKind, archive: &Archive, a: Posting, b: Posting) -> Ordering
     ensures { result
         ≡ slice_cmp nat_cmp (sort_key (keyer_of kind) archive.now a)
         (sort_key (keyer_of kind) archive.now b) }
@@ -331,7 +337,7 @@ pub(crate) fn compare(kind: IndexKind, archive: &Archive, a: Entry, b: Entry) ->
 #[derive(Clone, Copy)]
 pub(crate) enum Side<'a> {
     /// After an entry and all that go before it.
-    Behind(Entry),
+    Behind(Posting),
     /// Before the entries of a key, whose prefix is this.
     Before(u64, &'a [u8]),
     /// After the entries of a key, whose prefix is this.
@@ -352,7 +358,7 @@ pub(crate) fn compare_key(
     archive: &Archive,
     prefix: u64,
     key: &[u8],
-    entry: Entry,
+    entry: Posting,
 ) -> Ordering
     ensures { result ≡ key_cmp (keyer_of kind) archive.now prefix key.now entry }
 {
@@ -362,14 +368,14 @@ pub(crate) fn compare_key(
     }
 }
 
-impl<'a, 'k> Bound<Entry> for EntryBound<'a, 'k> {
+impl<'a, 'k> Bound<Posting> for EntryBound<'a, 'k> {
     ghost use Rattle.cb_index.specs.Kinds.{keyer_of};
     ghost use Rattle.cb_index.specs.steps.Bounds.{is_ahead};
 
     ghost is_ahead = { λ b. is_ahead (keyer_of b.kind) b.archive.now b.side };
 
     #[tactic(auto, unfolding(crate::specs::steps::Bounds::is_ahead))]
-    fn is_ahead(&self, one: Entry) -> bool {
+    fn is_ahead(&self, one: Posting) -> bool {
         let (kind, archive) = (self.kind, self.archive);
         match self.side {
             Side::Behind(entry) => compare(kind, archive, one, entry) != Ordering::Greater,

@@ -7,7 +7,7 @@ ghost use Rattle.cb_index.specs.steps.Found.{scope_cut, tag_of_def};
 ghost use Rattle.cb_index.specs.steps.Left.{fact_of, fact_of_spot, tag_of_spot};
 
 use crate::archive::{Archive, ScannedSource, Version, bytes_at, cut, place_at};
-use crate::entry::{Entry, FactKind};
+use crate::entry::{FactKind, Posting};
 use crate::order::name_in;
 use cb_scan::{Call, Def, Kind, Source, Tag, Use};
 use cb_tags::{Scope, TagRow};
@@ -94,7 +94,7 @@ fn tag_of_def<'a>(file: &'a [u8], source: &'a Source, def: Option<&Def>) -> TagR
 #[derive(Clone, Copy)]
 pub struct TagSpot<'a> {
     pub(crate) archive: &'a Archive,
-    pub(crate) entry: Entry,
+    pub(crate) entry: Posting,
 }
 
 impl<'a> TagSpot<'a> {

@@ -65,7 +65,7 @@ pub struct Shelf {
     indexes: [Index; 5],
     totals: Totals,
     room: Room,
-    turns: u64,
+    index_updates: u64,
     /// Scratch: the items of a version, which are sorted to lay its links.
     mentions: Vec<Mention>,
 }
@@ -78,7 +78,7 @@ impl Model for Shelf {
     ghost view = { λ s. record {
       archive = s.archive;
       shown = s.shown.items;
-      turns = s.turns;
+      turns = s.index_updates;
       entry_room = s.room.entries;
       def_room = s.room.defs;
       use_room = s.room.uses;
@@ -167,7 +167,7 @@ impl Shelf {
                 uses: 0,
                 calls: 0,
             },
-            turns: 0,
+            index_updates: 0,
             mentions: Vec::new(alloc),
         }
     }
@@ -192,7 +192,7 @@ impl Shelf {
     pub fn turns(&self) -> u64
         ensures { result ≡ self.now.turns }
     {
-        self.turns
+        self.index_updates
     }
 
     /// How many facts of each kind all that is shown has.
@@ -321,7 +321,7 @@ impl Shelf {
         self.totals = self.totals.with(&self.archive, news);
         self.shown.put_all(&self.archive, news);
         put_in_each(&mut self.indexes, news);
-        self.turns = self.turns.saturating_add(news.len() as u64);
+        self.index_updates = self.index_updates.saturating_add(news.len() as u64);
     }
 
     /// Hides what is shown under a name. It takes no memory.
@@ -332,7 +332,7 @@ impl Shelf {
         ensures turns { self.new.turns ≡ min (self.old.turns + 1) (2 ^ 64 - 1) }
         ensures room { KeepsRoom self.old self.new }
     {
-        self.turns = self.turns.saturating_add(1);
+        self.index_updates = self.index_updates.saturating_add(1);
         let one = match self.shown.take_under(&self.archive, name) {
             Some(one) => one,
             None => return,
@@ -373,7 +373,7 @@ impl Shelf {
         self.shown.take_names(files);
         self.totals = self.totals.of_fewer(&self.archive, self.shown.files());
         take_names_from_each(&mut self.indexes, files);
-        self.turns = self.turns.saturating_add(files.len() as u64);
+        self.index_updates = self.index_updates.saturating_add(files.len() as u64);
     }
 
     /// A file that shows a version, if one does.
@@ -408,11 +408,11 @@ impl Shelf {
                 return;
             }
         };
-        let turns = self.turns;
+        let index_updates = self.index_updates;
         self.hide(one.name);
         self.remove(version);
         self.show(one.name, version as u32);
-        self.turns = turns;
+        self.index_updates = index_updates;
     }
 
     /// Gives the number of a version to the last one, if that is shown and this one is not.

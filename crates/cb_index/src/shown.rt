@@ -13,13 +13,13 @@ ghost use Rattle.cb_index.specs.Blocks.{joined};
 ghost use Rattle.cb_index.specs.Compact.{shows_version};
 ghost use Rattle.cb_index.specs.Files.{AreApart, AreAscending, IsThere, is_shown, shown_key};
 ghost use Rattle.cb_index.specs.Files.{shown_name, shown_under};
-ghost use Rattle.cb_index.specs.Names.{AreSingle, is_among, names_of};
+ghost use Rattle.cb_index.specs.Names.{AreSingle, names_of};
 ghost use Rattle.cb_index.specs.declared.entry.Shown.{Shown};
 ghost use Rattle.cb_index.specs.steps.Compact.{IsAmong};
 ghost use Rattle.cb_index.specs.steps.ShownIn.{shown_in};
 
 use crate::archive::{Archive, compare_by_words};
-use crate::blocks::{Block, BlockList, Blocks, Bound, Place, place_of};
+use crate::blocks::{Block, BlockList, Blocks, Bound, Place, lower_bound};
 use crate::entry::Shown;
 use crate::files::ShownFiles;
 use std::cmp::Ordering;
@@ -190,7 +190,7 @@ fn try_put(archive: &Archive, one: Shown, blocks: &mut Blocks<Shown>) -> bool
         archive,
         name: archive.name(one.name),
     };
-    let place = place_of(&bound, blocks.used());
+    let place = lower_bound(&bound, blocks.used());
     blocks.try_insert(place, one)
 }
 
@@ -230,7 +230,7 @@ fn take(archive: &Archive, name: u32, blocks: &mut Blocks<Shown>) -> Option<Show
         name: archive.name(name),
     };
     let used = blocks.used();
-    let place = place_of(&bound, used);
+    let place = lower_bound(&bound, used);
     if place.at == 0 {
         return None;
     }

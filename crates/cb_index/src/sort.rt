@@ -10,10 +10,10 @@ ghost use Rattle.cb_scan.specs.Order.{in_order};
 ghost use Rattle.cb_index.specs.Entries.{sort_key};
 ghost use Rattle.cb_index.specs.Kinds.{keyer_of};
 ghost use Rattle.cb_index.specs.steps.Quick.{IsBoundary, IsDeep, prefix_of, with_prefix};
-ghost use Rattle.cb_index.specs.declared.entry.Entry.{Entry};
+ghost use Rattle.cb_index.specs.declared.entry.Posting.{Posting};
 
 use crate::archive::{Archive, read_bytes};
-use crate::entry::{Entry, IndexKind};
+use crate::entry::{IndexKind, Posting};
 use crate::order::{compare, plain_key};
 use cb_scan::key_prefix;
 use std::cmp::Ordering;
@@ -28,50 +28,50 @@ const WORD: usize = 8;
 const DEEPEST: usize = 128;
 
 /// Sorts entries by prefix.
-fn sort_by_prefix(entries: &mut [Entry])
+fn sort_by_prefix(entries: &mut [Posting])
     ensures moved { IsPermutation entries.old entries.new }
     ensures order { IsNonDecreasingBy prefix_of entries.new }
 {
     entries.sort_unstable_by_key(
-        |e: &Entry| -> u64
+        |e: &Posting| -> u64
             ensures { result ≡ e.now.prefix }
         { e.prefix },
     );
 }
 
 /// Sorts entries by name and number, which is near to the order of those of one key.
-fn sort_by_numbers(entries: &mut [Entry])
+fn sort_by_numbers(entries: &mut [Posting])
     ensures { IsPermutation entries.old entries.new }
 {
-    entries.sort_unstable_by_key(|e: &Entry| -> (u32, u32) { (e.name, e.number) });
+    entries.sort_unstable_by_key(|e: &Posting| -> (u32, u32) { (e.name, e.number) });
 }
 
 /// Where the entries of a prefix begin.
-fn start_of(entries: &[Entry], prefix: u64) -> usize
+fn start_of(entries: &[Posting], prefix: u64) -> usize
     requires { IsNonDecreasingBy prefix_of entries.now }
     ensures { IsBoundary entries.now result }
 {
     entries.partition_point(
-        |e: &Entry| -> bool
+        |e: &Posting| -> bool
             ensures { result ≡ nat_lt e.now.prefix prefix }
         { e.prefix < prefix },
     )
 }
 
 /// Where the entries of a prefix end.
-fn end_of(entries: &[Entry], prefix: u64) -> usize
+fn end_of(entries: &[Posting], prefix: u64) -> usize
     requires { IsNonDecreasingBy prefix_of entries.now }
     ensures { IsBoundary entries.now result }
 {
     entries.partition_point(
-        |e: &Entry| -> bool
+        |e: &Posting| -> bool
             ensures { result ≡ nat_le e.now.prefix prefix }
         { e.prefix <= prefix },
     )
 }
 
 /// Where the prefix in the middle begins; where it ends, if it begins with the entries.
-fn boundary(entries: &[Entry]) -> usize
+fn boundary(entries: &[Posting]) -> usize
     requires { IsNonDecreasingBy prefix_of entries.now }
     ensures { IsBoundary entries.now result }
 {
@@ -87,11 +87,11 @@ fn boundary(entries: &[Entry]) -> usize
 }
 
 /// Puts entries in order by looking their keys and files up.
-fn sort_whole(kind: IndexKind, archive: &Archive, entries: &mut [Entry])
+fn sort_whole(kind: IndexKind, archive: &Archive, entries: &mut [Posting])
     ensures { entries.new ≡ in_order (sort_key (keyer_of kind) archive.now) entries.old }
 {
     entries.sort_unstable_by(
-        |a: &Entry, b: &Entry| -> Ordering
+        |a: &Posting, b: &Posting| -> Ordering
             ensures { result ≡ slice_cmp nat_cmp (sort_key (keyer_of kind) archive.entry.now a.now)
                 (sort_key (keyer_of kind) archive.entry.now b.now) }
         { compare(kind, archive, *a, *b) },
@@ -99,7 +99,7 @@ fn sort_whole(kind: IndexKind, archive: &Archive, entries: &mut [Entry])
 }
 
 /// Puts entries in order, of which many have one key.
-fn sort_by_files(kind: IndexKind, archive: &Archive, entries: &mut [Entry])
+fn sort_by_files(kind: IndexKind, archive: &Archive, entries: &mut [Posting])
     ensures { entries.new ≡ in_order (sort_key (keyer_of kind) archive.now) entries.old }
 {
     sort_by_numbers(entries);
@@ -107,21 +107,21 @@ fn sort_by_files(kind: IndexKind, archive: &Archive, entries: &mut [Entry])
 }
 
 /// Whether all entries have this prefix.
-fn have_prefix(prefix: u64, entries: &[Entry]) -> bool
-    ensures { result ≡ list_all (λ (e : Entry). nat_eq e.prefix prefix) entries.now }
+fn have_prefix(prefix: u64, entries: &[Posting]) -> bool
+    ensures { result ≡ list_all (λ (e : Posting). nat_eq e.prefix prefix) entries.now }
 {
-    entries.iter().all(|e: &Entry| e.prefix == prefix)
+    entries.iter().all(|e: &Posting| e.prefix == prefix)
 }
 
 /// An entry with another prefix.
-fn with_prefix(prefix: u64, entry: Entry) -> Entry
+fn with_prefix(prefix: u64, entry: Posting) -> Posting
     ensures { result ≡ with_prefix prefix entry }
 {
-    Entry { prefix, ..entry }
+    Posting { prefix, ..entry }
 }
 
 /// Gives entries this prefix.
-fn set_prefix(prefix: u64, entries: &mut [Entry])
+fn set_prefix(prefix: u64, entries: &mut [Posting])
     ensures { entries.new ≡ map (with_prefix prefix) entries.old }
 {
     for entry in entries.iter_mut() {
@@ -130,7 +130,7 @@ fn set_prefix(prefix: u64, entries: &mut [Entry])
 }
 
 /// The eight bytes of a key that follow these, with which it begins, as a number.
-fn next_word(kind: IndexKind, archive: &Archive, front: &[u8], entry: Entry) -> Option<u64>
+fn next_word(kind: IndexKind, archive: &Archive, front: &[u8], entry: Posting) -> Option<u64>
     ensures { IfSome result (λ word. IsDeep (keyer_of kind) archive.now front.now
         (with_prefix word entry)) }
 {
@@ -141,7 +141,7 @@ fn next_word(kind: IndexKind, archive: &Archive, front: &[u8], entry: Entry) -> 
 
 /// Gives entries the next words of their keys as prefixes; false where a key does not begin with
 /// these bytes, and then only some have others.
-fn deepen(kind: IndexKind, archive: &Archive, front: &[u8], entries: &mut [Entry]) -> bool
+fn deepen(kind: IndexKind, archive: &Archive, front: &[u8], entries: &mut [Posting]) -> bool
     ensures same { (prefix : ℕ)
         → map (with_prefix prefix) entries.new ≡ map (with_prefix prefix) entries.old }
     ensures deep { result ≡ true
@@ -157,7 +157,7 @@ fn deepen(kind: IndexKind, archive: &Archive, front: &[u8], entries: &mut [Entry
 }
 
 /// The prefix of the first entry.
-fn first_prefix(entries: &[Entry]) -> u64 {
+fn first_prefix(entries: &[Posting]) -> u64 {
     match entries.first() {
         Some(first) => first.prefix,
         None => 0,
@@ -169,7 +169,7 @@ fn first_bytes<'a>(
     kind: IndexKind,
     archive: &'a Archive,
     depth: usize,
-    entries: &[Entry],
+    entries: &[Posting],
 ) -> Option<&'a [u8]> {
     plain_key(kind, archive, *entries.first()?)?.get(..depth)
 }
@@ -177,7 +177,7 @@ fn first_bytes<'a>(
 /// Puts entries of one prefix in order by the words of their keys from a depth on: each word takes
 /// the place of the prefix, until all are sorted by it.
 #[cycle(parts)]
-fn sort_run(kind: IndexKind, archive: &Archive, depth: usize, entries: &mut [Entry])
+fn sort_run(kind: IndexKind, archive: &Archive, depth: usize, entries: &mut [Posting])
     ensures { entries.new ≡ in_order (sort_key (keyer_of kind) archive.now) entries.old }
 {
     let prefix = first_prefix(entries);
@@ -201,7 +201,7 @@ fn sort_run(kind: IndexKind, archive: &Archive, depth: usize, entries: &mut [Ent
 
 /// Puts entries in order whose prefixes are.
 #[cycle(parts)]
-fn sort_parts(kind: IndexKind, archive: &Archive, depth: usize, entries: &mut [Entry])
+fn sort_parts(kind: IndexKind, archive: &Archive, depth: usize, entries: &mut [Posting])
     requires { IsNonDecreasingBy prefix_of entries.old }
     ensures { entries.new ≡ in_order (sort_key (keyer_of kind) archive.now) entries.old }
 {
@@ -220,7 +220,7 @@ fn sort_parts(kind: IndexKind, archive: &Archive, depth: usize, entries: &mut [E
 }
 
 /// Puts entries in order.
-fn sort_slice(kind: IndexKind, archive: &Archive, entries: &mut [Entry])
+fn sort_slice(kind: IndexKind, archive: &Archive, entries: &mut [Posting])
     ensures items { entries.new ≡ in_order (sort_key (keyer_of kind) archive.now) entries.old }
     ensures len { length entries.new ≡ length entries.old }
 {
@@ -229,7 +229,7 @@ fn sort_slice(kind: IndexKind, archive: &Archive, entries: &mut [Entry])
 }
 
 /// Puts entries in order.
-pub(crate) fn sort(kind: IndexKind, archive: &Archive, entries: &mut Vec<Entry>)
+pub(crate) fn sort(kind: IndexKind, archive: &Archive, entries: &mut Vec<Posting>)
     ensures items { entries.new.items
         ≡ in_order (sort_key (keyer_of kind) archive.now) entries.old.items }
     ensures len { length entries.new.items ≡ length entries.old.items }

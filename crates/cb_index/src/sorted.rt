@@ -15,7 +15,7 @@ ghost use Rattle.cb_index.specs.Kinds.{fact_kind, keyer_of, lister_of, prefix_of
 ghost use Rattle.cb_index.specs.RowOrders.{def_rank, rank_for, row_key, row_numbers, row_order};
 ghost use Rattle.cb_index.specs.RowOrders.{start_for, start_of};
 ghost use Rattle.cb_index.specs.Spreads.{HoldsRowsOf, rows_of_key};
-ghost use Rattle.cb_index.specs.declared.entry.Entry.{Entry};
+ghost use Rattle.cb_index.specs.declared.entry.Posting.{Posting};
 ghost use Rattle.cb_index.specs.declared.entry.Shown.{Shown};
 ghost use Rattle.cb_index.specs.steps.RowsLeft.{entry_rows, entry_rows_if, items_left, rows_left};
 ghost use Rattle.cb_index.specs.steps.Runs.{run_items};
@@ -23,7 +23,7 @@ ghost use Rattle.cb_index.specs.steps.Spread.{items_at, rows_in};
 
 use crate::archive::{Archive, OutOfMemory, Version};
 use crate::blocks::{BlockList, Run};
-use crate::entry::{Entry, FactKind, IndexKind, Shown};
+use crate::entry::{FactKind, IndexKind, Posting, Shown};
 use crate::items::{Chain, item_span};
 use crate::order::{compare_key_bytes, compare_keys, count, def_span};
 use crate::totals::count_of;
@@ -43,12 +43,12 @@ pub struct Row {
 }
 
 /// The row as an entry, of which only what its key is looked up by matters.
-fn entry_of(row: Row) -> Entry
+fn entry_of(row: Row) -> Posting
     ensures name { result.name ≡ row.name }
     ensures version { result.version ≡ row.version }
     ensures number { result.number ≡ row.item }
 {
-    Entry {
+    Posting {
         prefix: 0,
         name: row.name,
         version: row.version,
@@ -284,7 +284,7 @@ pub(crate) enum Items<'a> {
 /// The rows of one entry that are still to come.
 #[derive(Clone, Copy)]
 pub(crate) struct EntryRows<'a> {
-    entry: Entry,
+    entry: Posting,
     items: Items<'a>,
 }
 
@@ -293,12 +293,12 @@ pub(crate) struct EntryRows<'a> {
 pub struct Rows<'a> {
     sort: Option<FactKind>,
     archive: &'a Archive,
-    entries: Run<'a, Entry>,
+    entries: Run<'a, Posting>,
     first: Option<EntryRows<'a>>,
 }
 
 /// The items of an entry: a definition, or a use or a call and the later ones that have its key.
-fn items_of<'a>(sort: Option<FactKind>, archive: &'a Archive, entry: Entry) -> Items<'a>
+fn items_of<'a>(sort: Option<FactKind>, archive: &'a Archive, entry: Posting) -> Items<'a>
     ensures { items_left result ≡ items_at sort archive.now entry }
 {
     match sort {
@@ -352,14 +352,14 @@ fn next_row<'a>(first: Option<EntryRows<'a>>) -> Option<(Row, EntryRows<'a>)>
 struct Step<'a> {
     row: Row,
     first: EntryRows<'a>,
-    entries: Run<'a, Entry>,
+    entries: Run<'a, Posting>,
 }
 
 /// The first row of some entries.
 fn first_row<'a>(
     sort: Option<FactKind>,
     archive: &'a Archive,
-    entries: Run<'a, Entry>,
+    entries: Run<'a, Posting>,
 ) -> Option<Step<'a>>
     ensures { MatchOption result (rows_in sort archive.now (run_items entries.entry) ≡ [])
         (λ r. rows_in sort archive.now (run_items entries.entry)
@@ -387,7 +387,7 @@ impl<'a> Rows<'a> {
     pub(crate) fn new(
         sort: Option<FactKind>,
         archive: &'a Archive,
-        entries: Run<'a, Entry>,
+        entries: Run<'a, Posting>,
     ) -> Rows<'a>
         ensures { rows_left result ≡ rows_in sort archive.now (run_items entries.entry) }
     {
@@ -425,7 +425,7 @@ impl<'a> Iterator for Rows<'a> {
 /// The rows of the versions that were put, in the order `O`.
 #[derive(Drop)]
 pub struct Sorted<O> {
-    postings: BlockList<Entry>,
+    postings: BlockList<Posting>,
     order: PhantomData<O>,
 }
 
@@ -515,10 +515,10 @@ impl<O: RowOrder> Sorted<O> {
     /// Takes away the rows of a version under a name, all of which are there. It takes no memory,
     /// and the room stays.
     pub fn take_version(&mut self, archive: &Archive, shown: Shown)
-        requires { (rest : List Entry) × (self.old.entries
+        requires { (rest : List Posting) × (self.old.entries
             ≡ in_order (sort_key (keyer_of O.kind) archive.now)
             (entries_of (lister_of O.kind) archive.now shown ++ rest)) }
-        ensures entries { (rest : List Entry) → self.old.entries
+        ensures entries { (rest : List Posting) → self.old.entries
             ≡ in_order (sort_key (keyer_of O.kind) archive.now)
             (entries_of (lister_of O.kind) archive.now shown ++ rest)
             → self.new.entries ≡ in_order (sort_key (keyer_of O.kind) archive.now) rest }

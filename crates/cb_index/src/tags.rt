@@ -7,14 +7,14 @@ ghost use Rattle.cb_index.specs.Entries.{has_key};
 ghost use Rattle.cb_index.specs.Files.{AreAscending};
 ghost use Rattle.cb_index.specs.Held.{all_entries, entries_of};
 ghost use Rattle.cb_index.specs.Kinds.{def_kind, keyer_of, lister_of, prefix_of};
-ghost use Rattle.cb_index.specs.declared.entry.Entry.{Entry};
+ghost use Rattle.cb_index.specs.declared.entry.Posting.{Posting};
 ghost use Rattle.cb_index.specs.steps.ShownIn.{shown_in};
 ghost use Rattle.cb_index.specs.steps.ToCome.{GoesOn, earlier, first_of, is_asked, is_later};
 ghost use Rattle.cb_index.specs.steps.ToCome.{to_come};
 
 use crate::archive::Archive;
 use crate::blocks::Run;
-use crate::entry::{Asked, Entry, IndexKind, Shown};
+use crate::entry::{Asked, IndexKind, Posting, Shown};
 use crate::files::ShownFiles;
 use crate::order::{compare, compare_key, compare_key_bytes, def_entry, defs_of, prefix};
 use crate::rows::TagSpot;
@@ -42,7 +42,7 @@ pub(crate) struct DefSearch<'a, 'p> {
     archive: &'a Archive,
     shown: ShownFiles<'a>,
     asked: Asked<'p>,
-    last: Option<Entry>,
+    last: Option<Posting>,
     ghost goes_on: { GoesOn (def_kind by_tag_name) archive.now asked
         (all_entries (lister_of (def_kind by_tag_name)) archive.now (shown_in shown)) },
     ghost few: { length (all_entries (lister_of (def_kind by_tag_name)) archive.now
@@ -50,7 +50,7 @@ pub(crate) struct DefSearch<'a, 'p> {
 }
 
 /// Whether an entry comes after the last one, if there is one.
-fn is_later(kind: IndexKind, archive: &Archive, last: Option<Entry>, entry: Entry) -> bool
+fn is_later(kind: IndexKind, archive: &Archive, last: Option<Posting>, entry: Posting) -> bool
     ensures { result ≡ is_later (keyer_of kind) archive.now last entry }
 {
     match last {
@@ -60,7 +60,7 @@ fn is_later(kind: IndexKind, archive: &Archive, last: Option<Entry>, entry: Entr
 }
 
 /// Whether an entry has a key.
-fn has_key(kind: IndexKind, archive: &Archive, key: &[u8], entry: Entry) -> bool
+fn has_key(kind: IndexKind, archive: &Archive, key: &[u8], entry: Posting) -> bool
     ensures { result ≡ has_key (keyer_of kind) archive.now (prefix_of kind key.now) key.now entry }
 {
     prefix(kind, key) == entry.prefix
@@ -68,7 +68,7 @@ fn has_key(kind: IndexKind, archive: &Archive, key: &[u8], entry: Entry) -> bool
 }
 
 /// Whether an entry is asked for.
-fn is_asked(kind: IndexKind, archive: &Archive, asked: Asked<'_>, entry: Entry) -> bool
+fn is_asked(kind: IndexKind, archive: &Archive, asked: Asked<'_>, entry: Posting) -> bool
     ensures { result ≡ is_asked kind archive.now asked.entry entry }
 {
     match asked {
@@ -82,7 +82,7 @@ fn is_asked(kind: IndexKind, archive: &Archive, asked: Asked<'_>, entry: Entry) 
 }
 
 /// Of an entry and of one before it, if there is one, the first.
-fn earlier(kind: IndexKind, archive: &Archive, before: Option<Entry>, entry: Entry) -> Entry
+fn earlier(kind: IndexKind, archive: &Archive, before: Option<Posting>, entry: Posting) -> Posting
     ensures { result ≡ earlier (keyer_of kind) archive.now before entry }
 {
     match before {
@@ -117,7 +117,7 @@ impl<'a, 'p> DefSearch<'a, 'p> {
     }
 
     /// Of an entry, if it is still to come, and of one before it, the first.
-    fn earlier(&self, before: Option<Entry>, entry: Entry) -> Option<Entry>
+    fn earlier(&self, before: Option<Posting>, entry: Posting) -> Option<Posting>
         ensures { result ≡ earlier_of self.now before entry }
     {
         let kind = def_kind(self.by_tag_name);
@@ -130,7 +130,7 @@ impl<'a, 'p> DefSearch<'a, 'p> {
     }
 
     /// Of the entries of a version that are still to come and of one before them, the first.
-    fn first_in(&self, shown: Shown, before: Option<Entry>) -> Option<Entry>
+    fn first_in(&self, shown: Shown, before: Option<Posting>) -> Option<Posting>
         ensures { result ≡ first_among self.now before
             (entries_of (lister_of (def_kind self.now.by_tag_name)) self.now.archive.now shown) }
     {
@@ -148,7 +148,7 @@ impl<'a, 'p> DefSearch<'a, 'p> {
     }
 
     /// The first of the entries that are still to come.
-    fn first(&self) -> Option<Entry>
+    fn first(&self) -> Option<Posting>
         ensures { result ≡ first_of (search_left self.now) }
     {
         let mut left = self.shown;
@@ -161,7 +161,7 @@ impl<'a, 'p> DefSearch<'a, 'p> {
     }
 
     /// Takes the first entry.
-    pub(crate) fn take(&mut self) -> Option<Entry>
+    pub(crate) fn take(&mut self) -> Option<Posting>
         ensures { MatchOption result
             ((search_left self.old ≡ []) × (search_left self.new ≡ []))
             (λ e. search_left self.old ≡ e ∷ search_left self.new) }
@@ -190,7 +190,7 @@ impl<'a, 'p> DefSearch<'a, 'p> {
 #[derive(Clone, Copy)]
 pub(crate) enum Defs<'a, 'p> {
     /// In the entries of an index.
-    Indexed(Run<'a, Entry>),
+    Indexed(Run<'a, Posting>),
     /// By a search of all files.
     Searched(DefSearch<'a, 'p>),
 }
@@ -199,7 +199,7 @@ impl<'a, 'p> Defs<'a, 'p> {
     ghost use Rattle.cb_index.specs.steps.Left.{defs_left};
 
     /// Takes the first one.
-    fn take(&mut self) -> Option<Entry>
+    fn take(&mut self) -> Option<Posting>
         ensures { MatchOption result ((defs_left self.old ≡ []) × (defs_left self.new ≡ []))
             (λ e. defs_left self.old ≡ e ∷ defs_left self.new) }
     {

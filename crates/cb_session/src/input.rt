@@ -1,5 +1,5 @@
-//! What is read at a prompt, how a run ends, and reading: within limits, a line, and the block of
-//! a load or a reload.
+//! What is read at a prompt, and how a run ends. Reading it, within the limits of the run: a line,
+//! and behind that of a load or a reload a block.
 ghost use Rattle.std.specs.Prelude.{◌≡◌, List, ℕ, Some, IfOk, IfErr, ◌<◌, ◌≤◌, ◌∷◌, [], ◌++◌};
 ghost use Rattle.std.specs.Prelude.{length, vec_capacity};
 ghost use Rattle.cb_desk.specs.Models.{step_of};
@@ -156,7 +156,7 @@ impl Input<'_> {
 // ---- limits
 
 /// The most bytes of a command's line.
-pub(crate) const MOST_LINE: usize = 4_096;
+const MOST_LINE: usize = 4_096;
 
 /// The most digits of a number in a command.
 pub(crate) const MOST_DIGITS: usize = 9;
@@ -343,7 +343,7 @@ fn change_with<'a>(purpose: Purpose, name: &'a [u8], bytes: Vec<u8>) -> Change<'
 }
 
 /// Reads the block of a load or a reload of this name.
-pub fn read_change<'a, R: BufRead>(
+fn read_change<'a, R: BufRead>(
     alloc: Global,
     purpose: Purpose,
     name: &'a [u8],

@@ -12,10 +12,12 @@ mod input;
 mod line;
 
 // What is done with it, and what is written.
-pub mod laws;
 mod reply;
 mod state;
 mod tags;
+
+// Laws on the definitions of all this.
+pub mod laws;
 
 pub use input::{Command, Ended, Fault, Going, Input, Intake, Limits, OutOfMemory};
 pub use reply::{put_answer, put_row};

@@ -7,7 +7,7 @@ use Rattle.cb_scan.specs.declared.profile.Profile.{Profile}
 use Rattle.cb_index.specs.Archived.{Archived, name_of}
 use Rattle.cb_index.specs.Scanned.{Scanned}
 use Rattle.cb_index.specs.declared.entry.Shown.{Shown}
-use Rattle.cb_desk.specs.declared.places.NumberedPlace.{NumberedPlace}
+use Rattle.cb_desk.specs.declared.places.FileLine.{FileLine}
 use Rattle.cb_desk.specs.Step.{Step, load}
 use Rattle.cb_desk.specs.steps.Edits.{Edits, edited, turned_edits}
 use Rattle.cb_desk.specs.steps.Records.{AreThere, Fits, IsTurn, Kept, Numbered, Rooms, Turn, other}
@@ -63,9 +63,9 @@ abbrev pub HasRoomFor : Rooms → Archived → Numbered → Planned → Type 0
 HasRoomFor rooms old w p = (a : Archived) → Keeps old w p a → Fits rooms a (other a p.turn w)
 
 -- edits that can be taken back and leave places whose names are below that number
-pub record AreEdits (names : ℕ) (es : Edits) (ps : List NumberedPlace) : Type 0 where
+pub record AreEdits (names : ℕ) (es : Edits) (ps : List FileLine) : Type 0 where
   pub back : edited (turned_edits es) (edited es ps) ≡ ps
-  pub named : AllByRecursion (λ (p : NumberedPlace). p.name < names) (edited es ps)
+  pub named : AllByRecursion (λ (p : FileLine). p.name < names) (edited es ps)
 
 -- the world with other marks and frames, and another wanted text if there is one
 abbrev pub with_places : Archived → Numbered → Option (Option (List ℕ))
@@ -77,7 +77,7 @@ with_places a w wanted marks frames = record (world_in a w) {
 }
 
 -- the world with other marks, and another wanted text if there is one
-abbrev pub with_marks : Archived → Numbered → Option (Option (List ℕ)) → List NumberedPlace → World
+abbrev pub with_marks : Archived → Numbered → Option (Option (List ℕ)) → List FileLine → World
 with_marks a w wanted marks =
     record (world_in a w) { wanted = other_wanted wanted w.wanted; marks = map (place_in a) marks }
 
@@ -88,14 +88,14 @@ abbrev pub IsAmong : List Shown → Shown → Type 0
 IsAmong shown s = (i : ℕ) × (slice_get shown i ≡ Some s)
 
 -- a place is in the file of that name
-abbrev pub is_of : Archived → List ℕ → NumberedPlace → Bool
+abbrev pub is_of : Archived → List ℕ → FileLine → Bool
 is_of a name p = bytes_eq (name_of a p.name) name
 
 -- the places without those of the file of that name, and with another number for its name
-abbrev pub places_without : Archived → List ℕ → List NumberedPlace → List NumberedPlace
+abbrev pub places_without : Archived → List ℕ → List FileLine → List FileLine
 places_without a name ps = filter (λ p. not (is_of a name p)) ps
 
-abbrev pub renumbered : Archived → List ℕ → ℕ → NumberedPlace → NumberedPlace
+abbrev pub renumbered : Archived → List ℕ → ℕ → FileLine → FileLine
 renumbered a name number p = if is_of a name p then record p { name = number } else p
 
 -- the name under a number, where one number is that of a new name
@@ -103,5 +103,5 @@ abbrev pub name_then : Archived → ℕ → List ℕ → ℕ → List ℕ
 name_then a number new n = if nat_eq n number then new else name_of a n
 
 -- what places are ordered by then
-abbrev pub key_then : Archived → ℕ → List ℕ → NumberedPlace → List ℕ
+abbrev pub key_then : Archived → ℕ → List ℕ → FileLine → List ℕ
 key_then a number new p = place_key (record { file = name_then a number new p.name; line = p.line })

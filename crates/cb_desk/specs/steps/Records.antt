@@ -11,7 +11,7 @@ use Rattle.cb_index.specs.Files.{shown_name, total, use_count}
 use Rattle.cb_index.specs.Names.{is_among, names_of}
 use Rattle.cb_index.specs.Shelved.{Shelved}
 use Rattle.cb_index.specs.declared.entry.Shown.{Shown}
-use Rattle.cb_desk.specs.declared.places.NumberedPlace.{NumberedPlace}
+use Rattle.cb_desk.specs.declared.places.FileLine.{FileLine}
 use Rattle.cb_desk.specs.steps.Edits.{Edits, edited, turned_edits}
 use Rattle.cb_desk.specs.Places.{same_place}
 use Rattle.cb_desk.specs.Search.{lines_with}
@@ -24,8 +24,8 @@ pub record Numbered : Type 0 where
   pub bounds : WorldBounds
   pub shown : List Shown
   pub wanted : Option (List ℕ)
-  pub marks : List NumberedPlace
-  pub frames : List NumberedPlace
+  pub marks : List FileLine
+  pub frames : List FileLine
   pub names : ℕ
   pub versions : ℕ
 
@@ -45,7 +45,7 @@ abbrev pub moves : Turn → ℕ
 moves t = length t.hides + length t.shows
 
 -- the place, and the world, that numbers stand for
-abbrev pub place_in : Archived → NumberedPlace → Place
+abbrev pub place_in : Archived → FileLine → Place
 place_in a p = record { file = name_of a p.name; line = p.line }
 
 abbrev pub world_in : Archived → Numbered → World
@@ -125,8 +125,8 @@ pub record IsTurn (a : Archived) (t : Turn) (w : Numbered) : Type 0 where
 -- numbers are below those that the world uses, which are there
 pub record AreThere (a : Archived) (w : Numbered) : Type 0 where
   pub shown : AllByRecursion (λ (s : Shown). (s.name < w.names) × (s.version < w.versions)) w.shown
-  pub marks : AllByRecursion (λ (p : NumberedPlace). p.name < w.names) w.marks
-  pub frames : AllByRecursion (λ (p : NumberedPlace). p.name < w.names) w.frames
+  pub marks : AllByRecursion (λ (p : FileLine). p.name < w.names) w.marks
+  pub frames : AllByRecursion (λ (p : FileLine). p.name < w.names) w.frames
   pub names : w.names ≤ length a.names
   pub versions : w.versions ≤ length a.texts
 
@@ -161,7 +161,7 @@ pub record KeepsRooms (old new : Rooms) : Type 0 where
 
 -- a list of places, and for how many there is room
 pub record PlacesHeld : Type 0 where
-  pub places : List NumberedPlace
+  pub places : List FileLine
   pub room : ℕ
 
 -- a world in the numbers of an archive; how often something was shown or hidden; and the room
@@ -190,17 +190,17 @@ hidden s hides = record s { shown = without hides s.shown }
 -- ---- marks in numbers
 
 -- the marks without a place that is among them, or with it at its place
-abbrev pub toggled_numbers : Archived → NumberedPlace → List NumberedPlace → List NumberedPlace
+abbrev pub toggled_numbers : Archived → FileLine → List FileLine → List FileLine
 toggled_numbers a p marks =
     if list_any (λ m. same_place (place_in a p) (place_in a m)) marks
     then filter (λ m. not (same_place (place_in a p) (place_in a m))) marks
     else put (λ m. place_key (place_in a m)) p marks
 
 -- the lines of a text that hold another, as places of a file
-abbrev pub held_by : (text : List ℕ) (name : ℕ) (bytes : List ℕ) → List NumberedPlace
+abbrev pub held_by : (text : List ℕ) (name : ℕ) (bytes : List ℕ) → List FileLine
 held_by text name bytes = map (λ n. record { name = name; line = n }) (lines_with text bytes)
 
 -- those of all files that are shown
-abbrev pub held_numbers : Archived → List ℕ → List Shown → List NumberedPlace
+abbrev pub held_numbers : Archived → List ℕ → List Shown → List FileLine
 held_numbers a text shown =
     flat_map (λ (s : Shown). held_by text s.name (text_of a s.version).bytes) shown

@@ -3,20 +3,20 @@ use Rattle.std.specs.Prelude.{◌≡◌, ◌+◌, ◌-◌, ◌^◌, ℕ, Bool, t
 use Rattle.std.specs.Prelude.{min, max, not, if◌then◌else◌}
 use Rattle.std.specs.List.{count_by, prefix_len}
 use Rattle.cb_desk.specs.declared.renaming.Renaming.{Renaming}
-use Rattle.cb_desk.specs.declared.places.NumberedPlace.{NumberedPlace}
+use Rattle.cb_desk.specs.declared.places.FileLine.{FileLine}
 use Rattle.cb_desk.specs.steps.Edits.{Edits, both, each, renamed, renaming, turned_renaming}
 
 -- a renaming makes one list from the other, and back
-abbrev pub LeadsBetween : Renaming → (old new : List NumberedPlace) → Type 0
+abbrev pub LeadsBetween : Renaming → (old new : List FileLine) → Type 0
 LeadsBetween r old new = (renamed r old ≡ new) × (renamed (turned_renaming r) new ≡ old)
 
 -- how many places come before the first one of a file
-abbrev pub count_before : List NumberedPlace → ℕ → ℕ
-count_before ps name = prefix_len (λ (p : NumberedPlace). not (nat_eq p.name name)) ps
+abbrev pub count_before : List FileLine → ℕ → ℕ
+count_before ps name = prefix_len (λ (p : FileLine). not (nat_eq p.name name)) ps
 
 -- how many places of a file there are
-abbrev pub count_of : List NumberedPlace → ℕ → ℕ
-count_of ps name = count_by (λ (p : NumberedPlace). nat_eq p.name name) ps
+abbrev pub count_of : List FileLine → ℕ → ℕ
+count_of ps name = count_by (λ (p : FileLine). nat_eq p.name name) ps
 
 -- so many places of a file stand behind `before` others in one list and behind `after` others in
 -- the other: the places between these two change sides with them
@@ -31,7 +31,7 @@ renaming_over from to count before after = record {
 }
 
 -- the renaming between two lists in each of which the places of the file are together
-abbrev pub renaming_between : (from to : ℕ) → (old new : List NumberedPlace) → Renaming
+abbrev pub renaming_between : (from to : ℕ) → (old new : List FileLine) → Renaming
 renaming_between from to old new =
     renaming_over from to (count_of old from) (count_before old from) (count_before new to)
 

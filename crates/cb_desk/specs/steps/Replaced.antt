@@ -5,7 +5,7 @@ use Rattle.cb_index.specs.Archived.{Archived}
 use Rattle.cb_index.specs.Files.{file_of}
 use Rattle.cb_index.specs.declared.entry.Shown.{Shown}
 use Rattle.cb_desk.specs.declared.present.replace.Renewal.{Renewal}
-use Rattle.cb_desk.specs.declared.places.NumberedPlace.{NumberedPlace}
+use Rattle.cb_desk.specs.declared.places.FileLine.{FileLine}
 use Rattle.cb_desk.specs.Desk.{is_marked}
 use Rattle.cb_desk.specs.Marks.{replaced_file}
 use Rattle.cb_desk.specs.Places.{is_place_of}
@@ -13,23 +13,23 @@ use Rattle.cb_desk.specs.World.{File, Place, has_file}
 use Rattle.cb_desk.specs.steps.Records.{place_in}
 
 -- the places of marks
-abbrev pub places_in : Archived → List NumberedPlace → List Place
+abbrev pub places_in : Archived → List FileLine → List Place
 places_in a marks = map (place_in a) marks
 
 -- a file that is shown has a mark
-abbrev pub has_mark : Archived → List NumberedPlace → Shown → Bool
+abbrev pub has_mark : Archived → List FileLine → Shown → Bool
 has_mark a marks s = is_marked (places_in a marks) (file_of a s)
 
 -- a file that is shown, with the old text replaced on its marked lines
-abbrev pub file_then : Archived → List NumberedPlace → (old new : List ℕ) → Shown → File
+abbrev pub file_then : Archived → List FileLine → (old new : List ℕ) → Shown → File
 file_then a marks old new s = replaced_file old new (places_in a marks) (file_of a s)
 
 -- all files that are shown, those with a mark changed
-abbrev pub files_then : Archived → List NumberedPlace → (old new : List ℕ) → List Shown → List File
+abbrev pub files_then : Archived → List FileLine → (old new : List ℕ) → List Shown → List File
 files_then a marks old new shown = map (file_then a marks old new) shown
 
 -- those with a mark alone
-abbrev pub files_changed : Archived → List NumberedPlace → (old new : List ℕ)
+abbrev pub files_changed : Archived → List FileLine → (old new : List ℕ)
     → List Shown → List File
 files_changed a marks old new shown =
     map (file_then a marks old new) (filter (has_mark a marks) shown)
@@ -56,9 +56,9 @@ abbrev pub stays_in : List File → Place → Bool
 stays_in changed p = if has_file changed p.file then is_place_of changed p else true
 
 -- the places that do
-abbrev pub staying : Archived → List File → List NumberedPlace → List NumberedPlace
+abbrev pub staying : Archived → List File → List FileLine → List FileLine
 staying a changed places = filter (λ p. stays_in changed (place_in a p)) places
 
 -- the places of lines that are there
-abbrev pub remaining : Archived → List File → List NumberedPlace → List NumberedPlace
+abbrev pub remaining : Archived → List File → List FileLine → List FileLine
 remaining a files places = filter (λ p. is_place_of files (place_in a p)) places

@@ -10,7 +10,7 @@ ghost use Rattle.cb_desk.specs.Models.{step_of};
 ghost use Rattle.cb_desk.specs.Stack.{pop_refusal, push_refusal, pushed};
 ghost use Rattle.cb_desk.specs.Step.{after, place_of, refusal_of};
 ghost use Rattle.cb_desk.specs.World.{IsValidWorld, has_file, is_short};
-ghost use Rattle.cb_desk.specs.declared.places.NumberedPlace.{NumberedPlace};
+ghost use Rattle.cb_desk.specs.declared.places.FileLine.{FileLine};
 ghost use Rattle.cb_desk.specs.steps.Plans.{IsPlan, MovesOne};
 ghost use Rattle.cb_desk.specs.steps.Records.{moves, place_in, world_in};
 ghost use Rattle.cb_desk.specs.steps.Still.{IsStill};
@@ -18,7 +18,7 @@ ghost use Rattle.cb_desk.specs.steps.Walks.{IsKept};
 
 use crate::answers::shown_as;
 use crate::bounds::MOST_TEXT;
-use crate::places::NumberedPlace;
+use crate::places::FileLine;
 use crate::plan::{Plan, scanned};
 use crate::present::Present;
 use crate::{Bounds, Change, Refusal};
@@ -123,7 +123,7 @@ impl Present {
     }
 
     /// Why a place can't be marked, if it can't.
-    pub(crate) fn mark_refusal(&self, place: Option<NumberedPlace>) -> Option<Refusal>
+    pub(crate) fn mark_refusal(&self, place: Option<FileLine>) -> Option<Refusal>
         ensures { result
             ≡ mark_refusal self.now.now.wanted (option_map (place_in self.now.archive) place) }
     {
@@ -147,7 +147,7 @@ impl Present {
     }
 
     /// Why no frame can be put on the stack, if none can: there is no such place.
-    pub(crate) fn push_refusal(&self, place: Option<NumberedPlace>) -> Option<Refusal>
+    pub(crate) fn push_refusal(&self, place: Option<FileLine>) -> Option<Refusal>
         ensures { result ≡ push_refusal (option_map (place_in self.now.archive) place) }
     {
         match place {
@@ -172,12 +172,12 @@ impl Present {
 
 impl Present {
     /// The place that a change asks for, if it asks for one and that is there.
-    pub(crate) fn place_of(&mut self, change: &Change<'_>) -> Option<NumberedPlace>
+    pub(crate) fn place_of(&mut self, change: &Change<'_>) -> Option<FileLine>
         requires kept { IsKept self.old.rooms self.old.archive self.old.now }
         requires valid { IsValidWorld (world_in self.old.archive self.old.now) }
         ensures place { option_map (place_in self.old.archive) result
             ≡ place_of (world_in self.old.archive self.old.now) (step_of change.now) }
-        ensures there { MatchOption result ⊤ (λ (p : NumberedPlace). p.name < self.old.now.names) }
+        ensures there { MatchOption result ⊤ (λ (p : FileLine). p.name < self.old.now.names) }
         ensures still { IsStill self.old self.new }
     {
         match change {
@@ -188,11 +188,7 @@ impl Present {
     }
 
     /// Why a change is refused, if it is. `place` is the place that it asks for.
-    pub(crate) fn refusal_of(
-        &self,
-        change: &Change<'_>,
-        place: Option<NumberedPlace>,
-    ) -> Option<Refusal>
+    pub(crate) fn refusal_of(&self, change: &Change<'_>, place: Option<FileLine>) -> Option<Refusal>
         requires kept { IsKept self.now.rooms self.now.archive self.now.now }
         requires valid { IsValidWorld (world_in self.now.archive self.now.now) }
         requires place { option_map (place_in self.now.archive) place
@@ -290,9 +286,9 @@ impl Present {
     }
 
     /// The plan to mark a place that is there, or to take its mark away.
-    fn plan_to_mark(&self, alloc: Global, place: Option<NumberedPlace>) -> Result<Plan, AllocError>
+    fn plan_to_mark(&self, alloc: Global, place: Option<FileLine>) -> Result<Plan, AllocError>
         requires kept { IsKept self.now.rooms self.now.archive self.now.now }
-        requires there { MatchOption place ⊤ (λ (p : NumberedPlace). p.name < self.now.now.names) }
+        requires there { MatchOption place ⊤ (λ (p : FileLine). p.name < self.now.now.names) }
         requires accepted { mark_refusal self.now.now.wanted
             (option_map (place_in self.now.archive) place) ≡ None }
         ensures { IfOk result
@@ -304,9 +300,9 @@ impl Present {
     }
 
     /// The plan to put a frame of a place that is there on top of the stack.
-    fn plan_to_push(&self, alloc: Global, place: Option<NumberedPlace>) -> Result<Plan, AllocError>
+    fn plan_to_push(&self, alloc: Global, place: Option<FileLine>) -> Result<Plan, AllocError>
         requires kept { IsKept self.now.rooms self.now.archive self.now.now }
-        requires there { MatchOption place ⊤ (λ (p : NumberedPlace). p.name < self.now.now.names) }
+        requires there { MatchOption place ⊤ (λ (p : FileLine). p.name < self.now.now.names) }
         requires accepted { push_refusal (option_map (place_in self.now.archive) place) ≡ None }
         ensures { IfOk result
             (λ p. IsPlan self.now p (pushed (world_in self.now.archive self.now.now)
@@ -322,13 +318,13 @@ impl Present {
         alloc: Global,
         meter: &mut Meter,
         change: Change<'_>,
-        place: Option<NumberedPlace>,
+        place: Option<FileLine>,
     ) -> Result<Plan, AllocError>
         requires kept { IsKept self.now.rooms self.now.archive self.now.now }
         requires valid { IsValidWorld (world_in self.now.archive self.now.now) }
         requires place { option_map (place_in self.now.archive) place
             ≡ place_of (world_in self.now.archive self.now.now) (step_of change) }
-        requires there { MatchOption place ⊤ (λ (p : NumberedPlace). p.name < self.now.now.names) }
+        requires there { MatchOption place ⊤ (λ (p : FileLine). p.name < self.now.now.names) }
         requires accepted { refusal_of (world_in self.now.archive self.now.now) (step_of change)
             ≡ None }
         ensures plan { IfOk result (λ p. IsPlan self.now p

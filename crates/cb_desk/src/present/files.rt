@@ -14,7 +14,7 @@ ghost use Rattle.cb_desk.specs.steps.Records.{moves, world_in};
 ghost use Rattle.cb_desk.specs.steps.Walks.{IsKept};
 
 use crate::edits::{PlaceEdits, difference, renaming_difference};
-use crate::places::NumberedPlace;
+use crate::places::FileLine;
 use crate::plan::{NewVersions, Plan, Record};
 use crate::present::{Present, sum};
 use cb_index::{Archive, Shown, Version};
@@ -29,8 +29,8 @@ fn renumbered(
     archive: &Archive,
     name: &[u8],
     number: u32,
-    places: &[NumberedPlace],
-) -> Result<Vec<NumberedPlace>, AllocError>
+    places: &[FileLine],
+) -> Result<Vec<FileLine>, AllocError>
     ensures { IfOk result
         (λ made. made.items ≡ map (renumbered archive.now name.now number) places.now) }
 {
@@ -57,13 +57,7 @@ fn name_then<'a>(archive: &'a Archive, number: u32, new: &'a [u8], name: u32) ->
 }
 
 /// The order of two places: by the bytes of the files' names, and then by line.
-fn compare(
-    archive: &Archive,
-    number: u32,
-    new: &[u8],
-    a: NumberedPlace,
-    b: NumberedPlace,
-) -> Ordering
+fn compare(archive: &Archive, number: u32, new: &[u8], a: FileLine, b: FileLine) -> Ordering
     ensures { result ≡ slice_cmp nat_cmp (key_then archive.now number new.now a)
         (key_then archive.now number new.now b) }
 {
@@ -80,13 +74,13 @@ fn sort_places(
     archive: &Archive,
     number: u32,
     new: &[u8],
-    places: &mut Vec<NumberedPlace>,
+    places: &mut Vec<FileLine>,
 ) -> Result<(), AllocError>
     ensures { IfOk result (λ _. places.new.items
         ≡ in_order (key_then archive.now number new.now) places.old.items) }
 {
     places.sort_by(
-        |a: &NumberedPlace, b: &NumberedPlace| -> Ordering
+        |a: &FileLine, b: &FileLine| -> Ordering
             ensures { result
                 ≡ slice_cmp nat_cmp (key_then archive.entry.now number new.entry.now a.now)
                 (key_then archive.entry.now number new.entry.now b.now) }
@@ -101,7 +95,7 @@ fn edits_renumbered(
     archive: &Archive,
     old: u32,
     number: u32,
-    places: &[NumberedPlace],
+    places: &[FileLine],
 ) -> Result<PlaceEdits, AllocError>
     ensures { IfOk result (λ edits. IsDifference edits places.now
         (map (renumbered archive.now (name_of archive.now old) number) places.now)) }
@@ -117,7 +111,7 @@ fn edits_moved(
     old: u32,
     number: u32,
     new: &[u8],
-    places: &[NumberedPlace],
+    places: &[FileLine],
 ) -> Result<PlaceEdits, AllocError>
     ensures { IfOk result (λ edits. IsDifference edits places.now
         (in_order (key_then archive.now number new.now)
@@ -135,8 +129,8 @@ fn places_without(
     alloc: Global,
     archive: &Archive,
     name: &[u8],
-    places: &[NumberedPlace],
-) -> Result<Vec<NumberedPlace>, AllocError>
+    places: &[FileLine],
+) -> Result<Vec<FileLine>, AllocError>
     ensures { IfOk result (λ kept. kept.items ≡ places_without archive.now name.now places.now) }
 {
     let mut kept = Vec::new(alloc);
@@ -153,7 +147,7 @@ fn edits_without(
     alloc: Global,
     archive: &Archive,
     gone: u32,
-    places: &[NumberedPlace],
+    places: &[FileLine],
 ) -> Result<PlaceEdits, AllocError>
     ensures { IfOk result (λ edits. IsDifference edits places.now
         (places_without archive.now (name_of archive.now gone) places.now)) }

@@ -10,19 +10,19 @@ ghost use Rattle.cb_desk.specs.steps.Records.{place_in};
 ghost use Rattle.cb_desk.specs.steps.Replaced.{has_mark, places_in};
 
 use crate::answers::split_named;
-use crate::places::NumberedPlace;
+use crate::places::FileLine;
 use cb_index::{Archive, Shown, ShownFiles};
 use std::marker::Model;
 
 /// Whether a place is in the file of that name.
-fn is_in(archive: &Archive, place: NumberedPlace, name: &[u8]) -> bool
+fn is_in(archive: &Archive, place: FileLine, name: &[u8]) -> bool
     ensures { result ≡ is_in name.now (place_in archive.now place) }
 {
     archive.name(place.name) == name
 }
 
 /// How many marks at the front are in the file of that name.
-pub(crate) fn count_in(archive: &Archive, marks: &[NumberedPlace], name: &[u8]) -> usize
+pub(crate) fn count_in(archive: &Archive, marks: &[FileLine], name: &[u8]) -> usize
     ensures value { result ≡ prefix_len (λ m. is_in name.now (place_in archive.now m)) marks.now }
     ensures within { result ≤ length marks.now }
 {
@@ -37,14 +37,14 @@ pub(crate) fn count_in(archive: &Archive, marks: &[NumberedPlace], name: &[u8]) 
 struct Found<'a> {
     file: Shown,
     files: ShownFiles<'a>,
-    marks: &'a [NumberedPlace],
+    marks: &'a [FileLine],
 }
 
 /// The first file that has a mark. The file of each mark is found by binary search.
 fn first_marked<'a>(
     archive: &Archive,
     files: ShownFiles<'a>,
-    marks: &'a [NumberedPlace],
+    marks: &'a [FileLine],
 ) -> Option<Found<'a>>
     requires files { AreAscending archive.now (shown_in files) }
     requires marks { world.AreAscending (places_in archive.now marks.now) }
@@ -81,7 +81,7 @@ pub(crate) struct MarkedFiles<'a> {
     archive: &'a Archive,
     /// The files and the marks that are still to be looked at.
     files: ShownFiles<'a>,
-    marks: &'a [NumberedPlace],
+    marks: &'a [FileLine],
 }
 
 impl<'a> Model for MarkedFiles<'a> {
@@ -105,7 +105,7 @@ impl<'a> MarkedFiles<'a> {
     pub(crate) fn new(
         archive: &'a Archive,
         files: ShownFiles<'a>,
-        marks: &'a [NumberedPlace],
+        marks: &'a [FileLine],
     ) -> MarkedFiles<'a>
         requires files { AreAscending archive.now (shown_in files) }
         requires marks { world.AreAscending (places_in archive.now marks.now) }

@@ -14,7 +14,7 @@ ghost use Rattle.cb_desk.specs.Places.{nth, same_place};
 ghost use Rattle.cb_desk.specs.Search.{lines_with};
 ghost use Rattle.cb_desk.specs.Stack.{places, popped, pushed};
 ghost use Rattle.cb_desk.specs.World.{IsAscending, place_key};
-ghost use Rattle.cb_desk.specs.declared.places.NumberedPlace.{NumberedPlace};
+ghost use Rattle.cb_desk.specs.declared.places.FileLine.{FileLine};
 ghost use Rattle.cb_desk.specs.steps.Plans.{AreEdits, IsPlan, with_marks, with_places};
 ghost use Rattle.cb_desk.specs.steps.Records.{held_by, held_numbers, place_in, toggled_numbers};
 ghost use Rattle.cb_desk.specs.steps.Records.{world_in};
@@ -24,7 +24,7 @@ ghost use Rattle.cb_desk.specs.steps.Walks.{IsKept};
 
 use crate::answers::{nth_definition, shown_as};
 use crate::edits::{PlaceEdits, difference, popped, pushed};
-use crate::places::NumberedPlace;
+use crate::places::FileLine;
 use crate::plan::{NewVersions, Plan, Record};
 use crate::present::Present;
 use crate::search::TextLines;
@@ -70,25 +70,25 @@ impl Present {
 
     /// The place of the nth definition of a name, by file and place, counted from 1, if there is
     /// one.
-    pub(crate) fn nth_tag(&mut self, name: &[u8], n: u64) -> Option<NumberedPlace>
+    pub(crate) fn nth_tag(&mut self, name: &[u8], n: u64) -> Option<FileLine>
         requires { IsKept self.old.rooms self.old.archive self.old.now }
         ensures place { option_map (place_in self.old.archive) result
             ≡ nth n (places self.old.archive.profile
             (world_in self.old.archive self.old.now).files name.now) }
-        ensures there { MatchOption result ⊤ (λ (p : NumberedPlace). p.name < self.old.now.names) }
+        ensures there { MatchOption result ⊤ (λ (p : FileLine). p.name < self.old.now.names) }
         ensures still { IsStill self.old self.new }
     {
         self.settle(IndexKind::DefsByName);
         let (file, line) = nth_definition(&self.shelf, name, n)?;
         let found = shown_as(&self.shelf, file)?;
-        Some(NumberedPlace {
+        Some(FileLine {
             name: found.name,
             line,
         })
     }
 
     /// The plan to put a frame on top of the stack.
-    pub(crate) fn plan_push(&self, alloc: Global, place: NumberedPlace) -> Result<Plan, AllocError>
+    pub(crate) fn plan_push(&self, alloc: Global, place: FileLine) -> Result<Plan, AllocError>
         requires kept { IsKept self.now.rooms self.now.archive self.now.now }
         requires there { place.name < self.now.now.names }
         ensures { IfOk result (λ p. IsPlan self.now p
@@ -114,11 +114,11 @@ impl Present {
         &self,
         alloc: Global,
         wanted: Option<Option<Vec<u8>>>,
-        marks: &[NumberedPlace],
+        marks: &[FileLine],
     ) -> Result<Plan, AllocError>
         requires kept { IsKept self.now.rooms self.now.archive self.now.now }
         requires there { AllByRecursion
-            (λ (p : NumberedPlace). p.name < self.now.now.names) marks.now }
+            (λ (p : FileLine). p.name < self.now.now.names) marks.now }
         ensures { IfOk result (λ p. IsPlan self.now p (with_marks self.now.archive self.now.now
             (bytes_if_other wanted) marks.now)) }
     {
@@ -140,14 +140,14 @@ impl Present {
 // ---- marks
 
 /// Whether two places are one.
-fn is_same(archive: &Archive, a: NumberedPlace, b: NumberedPlace) -> bool
+fn is_same(archive: &Archive, a: FileLine, b: FileLine) -> bool
     ensures { result ≡ same_place (place_in archive.now a) (place_in archive.now b) }
 {
     archive.name(a.name) == archive.name(b.name) && a.line == b.line
 }
 
 /// The order of two marks: by the bytes of the files' names, and then by line.
-fn compare(archive: &Archive, a: NumberedPlace, b: NumberedPlace) -> Ordering
+fn compare(archive: &Archive, a: FileLine, b: FileLine) -> Ordering
     ensures { result ≡ slice_cmp nat_cmp (place_key (place_in archive.now a))
         (place_key (place_in archive.now b)) }
 {
@@ -158,7 +158,7 @@ fn compare(archive: &Archive, a: NumberedPlace, b: NumberedPlace) -> Ordering
 }
 
 /// Whether a place is marked.
-fn has_mark(archive: &Archive, marks: &[NumberedPlace], place: NumberedPlace) -> bool
+fn has_mark(archive: &Archive, marks: &[FileLine], place: FileLine) -> bool
     ensures { result ≡ list_any
         (λ m. same_place (place_in archive.now place) (place_in archive.now m)) marks.now }
 {
@@ -166,7 +166,7 @@ fn has_mark(archive: &Archive, marks: &[NumberedPlace], place: NumberedPlace) ->
 }
 
 /// The index at which a place is put among marks.
-fn index_for(archive: &Archive, marks: &[NumberedPlace], place: NumberedPlace) -> usize
+fn index_for(archive: &Archive, marks: &[FileLine], place: FileLine) -> usize
     ensures value { result ≡ prefix_len
         (λ m. not (goes_first (λ p. place_key (place_in archive.now p)) place m)) marks.now }
     ensures within { result ≤ length marks.now }
@@ -181,9 +181,9 @@ fn index_for(archive: &Archive, marks: &[NumberedPlace], place: NumberedPlace) -
 fn toggled(
     alloc: Global,
     archive: &Archive,
-    marks: &[NumberedPlace],
-    place: NumberedPlace,
-) -> Result<Vec<NumberedPlace>, AllocError>
+    marks: &[FileLine],
+    place: FileLine,
+) -> Result<Vec<FileLine>, AllocError>
     ensures { IfOk result (λ made. made.items ≡ toggled_numbers archive.now place marks.now) }
 {
     let mut made = Vec::from_slice(alloc, marks)?;
@@ -197,7 +197,7 @@ fn toggled(
 
 /// Adds the lines of a file that hold a text.
 fn add_held(
-    made: &mut Vec<NumberedPlace>,
+    made: &mut Vec<FileLine>,
     name: u32,
     source: &Source,
     finder: &Finder<'_>,
@@ -207,7 +207,7 @@ fn add_held(
         (λ _. made.new.items ≡ made.old.items ++ held_by finder.now name source.now) }
 {
     for line in TextLines::new(source, finder) {
-        made.push(NumberedPlace { name, line })?;
+        made.push(FileLine { name, line })?;
     }
     Ok(())
 }
@@ -218,7 +218,7 @@ fn held_numbers(
     archive: &Archive,
     shown: ShownFiles<'_>,
     text: &[u8],
-) -> Result<Vec<NumberedPlace>, AllocError>
+) -> Result<Vec<FileLine>, AllocError>
     requires some { text.now ≢ [] }
     requires there { AllByRecursion (IsThere archive.now) (shown_in shown) }
     ensures { IfOk result
@@ -252,7 +252,7 @@ fn nth_line(source: &Source, finder: &Finder<'_>, n: u64) -> Result<u32, u64>
 }
 
 /// The nth line of some files that holds a text, by file and line, counted from 1.
-fn nth_held(archive: &Archive, shown: ShownFiles<'_>, text: &[u8], n: u64) -> Option<NumberedPlace>
+fn nth_held(archive: &Archive, shown: ShownFiles<'_>, text: &[u8], n: u64) -> Option<FileLine>
     requires some { text.now ≢ [] }
     requires there { AllByRecursion (IsThere archive.now) (shown_in shown) }
     ensures { result ≡ nth n (held_numbers archive.now text.now (shown_in shown.entry)) }
@@ -265,7 +265,7 @@ fn nth_held(archive: &Archive, shown: ShownFiles<'_>, text: &[u8], n: u64) -> Op
     let mut rest = shown;
     while let Some((file, more)) = rest.split_first() {
         match nth_line(archive.source(file.version), &finder, passed) {
-            Ok(line) => return Some(NumberedPlace {
+            Ok(line) => return Some(FileLine {
                 name: file.name,
                 line,
             }),
@@ -278,14 +278,14 @@ fn nth_held(archive: &Archive, shown: ShownFiles<'_>, text: &[u8], n: u64) -> Op
 
 impl Present {
     /// The lines that hold the wanted text, by file and line.
-    fn wanted_numbers(&self, alloc: Global) -> Result<Vec<NumberedPlace>, AllocError>
+    fn wanted_numbers(&self, alloc: Global) -> Result<Vec<FileLine>, AllocError>
         requires kept { IsKept self.now.rooms self.now.archive self.now.now }
         requires some { self.now.now.wanted ≢ Some [] }
         requires ascending { IsAscending (world_in self.now.archive self.now.now).files }
         ensures places { IfOk result (λ made. map (place_in self.now.archive) made.items
             ≡ wanted_places (world_in self.now.archive self.now.now)) }
         ensures there { IfOk result (λ made. AllByRecursion
-            (λ (p : NumberedPlace). p.name < self.now.now.names) made.items) }
+            (λ (p : FileLine). p.name < self.now.now.names) made.items) }
     {
         match &self.wanted {
             Some(text) => held_numbers(
@@ -299,13 +299,13 @@ impl Present {
     }
 
     /// The nth line that holds the wanted text, by file and line, counted from 1, if there is one.
-    pub(crate) fn nth_wanted(&self, n: u64) -> Option<NumberedPlace>
+    pub(crate) fn nth_wanted(&self, n: u64) -> Option<FileLine>
         requires kept { IsKept self.now.rooms self.now.archive self.now.now }
         requires some { self.now.now.wanted ≢ Some [] }
         requires ascending { IsAscending (world_in self.now.archive self.now.now).files }
         ensures place { option_map (place_in self.now.archive) result
             ≡ nth n (wanted_places (world_in self.now.archive self.now.now)) }
-        ensures there { MatchOption result ⊤ (λ (p : NumberedPlace). p.name < self.now.now.names) }
+        ensures there { MatchOption result ⊤ (λ (p : FileLine). p.name < self.now.now.names) }
     {
         let text = self.wanted.as_ref()?;
         nth_held(self.shelf.archive(), self.shelf.shown(), text.as_slice(), n)
@@ -324,7 +324,7 @@ impl Present {
     }
 
     /// The plan to mark a place, or to take its mark away.
-    pub(crate) fn plan_mark(&self, alloc: Global, place: NumberedPlace) -> Result<Plan, AllocError>
+    pub(crate) fn plan_mark(&self, alloc: Global, place: FileLine) -> Result<Plan, AllocError>
         requires kept { IsKept self.now.rooms self.now.archive self.now.now }
         requires there { place.name < self.now.now.names }
         ensures { IfOk result (λ p. IsPlan self.now p

@@ -22,7 +22,7 @@ ghost use Rattle.cb_desk.specs.steps.Walks.{IsKept};
 
 use crate::Refusal;
 use crate::edits::{PlaceEdits, difference};
-use crate::places::NumberedPlace;
+use crate::places::FileLine;
 use crate::plan::{NewVersions, Plan, Record};
 use crate::present::changes::is_short;
 use crate::present::replaced::Replacing;
@@ -132,7 +132,7 @@ fn index_for(archive: &Archive, files: &[Shown], name: &[u8]) -> usize
 
 impl<'a> Replacing<'a> {
     /// Whether a place stays a line where some files get new versions. In other files it does.
-    fn stays(self, changed: &[Shown], versions: &NewVersions, place: NumberedPlace) -> bool
+    fn stays(self, changed: &[Shown], versions: &NewVersions, place: FileLine) -> bool
         requires ascending { AreAscending self.archive.now changed.now }
         requires versions { versions.now.texts ≡ texts_of
             (files_then self.archive.now self.marks.now self.old.now self.new.now changed.now) }
@@ -155,8 +155,8 @@ impl<'a> Replacing<'a> {
         alloc: Global,
         changed: &[Shown],
         versions: &NewVersions,
-        places: &[NumberedPlace],
-    ) -> Result<Vec<NumberedPlace>, AllocError>
+        places: &[FileLine],
+    ) -> Result<Vec<FileLine>, AllocError>
         requires ascending { AreAscending self.archive.now changed.now }
         requires versions { versions.now.texts ≡ texts_of
             (files_then self.archive.now self.marks.now self.old.now self.new.now changed.now) }
@@ -180,7 +180,7 @@ impl<'a> Replacing<'a> {
         alloc: Global,
         changed: &[Shown],
         versions: &NewVersions,
-        places: &[NumberedPlace],
+        places: &[FileLine],
     ) -> Result<PlaceEdits, AllocError>
         requires ascending { AreAscending self.archive.now changed.now }
         requires versions { versions.now.texts ≡ texts_of

@@ -16,7 +16,7 @@ ghost use Rattle.cb_desk.specs.declared.bounds.TheConstants.{MOST_BYTES};
 ghost use Rattle.cb_desk.specs.steps.Replaced.{file_then, files_then, has_mark, places_in};
 ghost use Rattle.cb_desk.specs.steps.Replaced.{texts_of};
 
-use crate::places::NumberedPlace;
+use crate::places::FileLine;
 use crate::plan::{NewVersions, scanned_source};
 use crate::present::marked_files::{MarkedFiles, count_in};
 use crate::present::replacement::{replaced_len, replaced_text};
@@ -26,7 +26,7 @@ use std::alloc::{AllocError, Global};
 use std::cmp::Ordering;
 
 /// Where the marks begin whose file names are not below a name, by binary search.
-fn start_of(archive: &Archive, marks: &[NumberedPlace], name: &[u8]) -> usize
+fn start_of(archive: &Archive, marks: &[FileLine], name: &[u8]) -> usize
     requires { AreAscending (places_in archive.now marks.now) }
     ensures within { result ≤ length marks.now }
     ensures parted { IsPartitionPoint
@@ -35,7 +35,7 @@ fn start_of(archive: &Archive, marks: &[NumberedPlace], name: &[u8]) -> usize
         marks.now result }
 {
     marks.partition_point(
-        |m: &NumberedPlace| -> bool
+        |m: &FileLine| -> bool
             ensures { result
                 ≡ is_lt (slice_cmp nat_cmp (name_of archive.entry.now m.now.name) name.entry.now) }
         { archive.name(m.name).cmp(name) == Ordering::Less },
@@ -47,7 +47,7 @@ fn start_of(archive: &Archive, marks: &[NumberedPlace], name: &[u8]) -> usize
 pub(crate) struct Replacing<'a> {
     pub(crate) archive: &'a Archive,
     /// The marks, by file and line.
-    pub(crate) marks: &'a [NumberedPlace],
+    pub(crate) marks: &'a [FileLine],
     pub(crate) old: &'a [u8],
     pub(crate) new: &'a [u8],
     /// The most bytes of a file.
@@ -61,7 +61,7 @@ pub(crate) struct Replacing<'a> {
 
 impl<'a> Replacing<'a> {
     /// The marks of the file of that name, which follow one another, by binary search.
-    fn marks_of(self, name: &[u8]) -> &'a [NumberedPlace]
+    fn marks_of(self, name: &[u8]) -> &'a [FileLine]
         ensures lines { map (λ m. m.line) result.now
             ≡ marked_lines name.now (places_in self.entry.archive.now self.entry.marks.now) }
         ensures ascending { IsStrictlySortedBy nat_cmp (map (λ m. m.line) result.now) }

@@ -10,7 +10,7 @@ ghost use Rattle.cb_desk.specs.declared.bounds.TheConstants.{MOST_BYTES};
 ghost use Rattle.cb_desk.specs.steps.MarkedLines.{leads, marked_line, without_first};
 
 use crate::bounds::MOST_BYTES;
-use crate::places::NumberedPlace;
+use crate::places::FileLine;
 use bstr::{ByteSlice, LinesWithTerminator};
 use cb_scan::Source;
 use memchr::memmem::find_iter;
@@ -39,7 +39,7 @@ pub(crate) struct MarkedLines<'a> {
     /// The number of the next line, from 1.
     number: u32,
     /// The marks from that line on.
-    marks: &'a [NumberedPlace],
+    marks: &'a [FileLine],
 }
 
 impl<'a> Model for MarkedLines<'a> {
@@ -57,7 +57,7 @@ impl<'a> Model for MarkedLines<'a> {
 }
 
 /// The marks after a line, and whether the first mark is on it.
-fn split_at_line<'a>(marks: &'a [NumberedPlace], number: u32) -> (&'a [NumberedPlace], bool)
+fn split_at_line<'a>(marks: &'a [FileLine], number: u32) -> (&'a [FileLine], bool)
     ensures rest { map (λ m. m.line) result.0.now
         ≡ without_first number (map (λ m. m.line) marks.now) }
     ensures marked { result.1 ≡ leads number (map (λ m. m.line) marks.now) }
@@ -77,7 +77,7 @@ fn split_at_line<'a>(marks: &'a [NumberedPlace], number: u32) -> (&'a [NumberedP
 impl<'a> MarkedLines<'a> {
     /// The lines of a text. The lines of the marks ascend, each once; one that is not there is
     /// passed over.
-    pub(crate) fn new(source: &'a Source, marks: &'a [NumberedPlace]) -> MarkedLines<'a>
+    pub(crate) fn new(source: &'a Source, marks: &'a [FileLine]) -> MarkedLines<'a>
         requires { IsStrictlySortedBy nat_cmp (map (λ m. m.line) marks.now) }
         ensures value { result ≡ marked_from (map (λ m. m.line) marks.now) 1 (lines_of source.now) }
         ensures len { length result ≤ MOST_BYTES }
@@ -140,7 +140,7 @@ fn put_replaced_line(
 
 /// How many bytes a text has after a replacement on the marked lines. The lines of the marks
 /// ascend, each once. It takes no memory.
-pub(crate) fn replaced_len(source: &Source, old: &[u8], new: &[u8], marks: &[NumberedPlace]) -> u64
+pub(crate) fn replaced_len(source: &Source, old: &[u8], new: &[u8], marks: &[FileLine]) -> u64
     requires some { old.now ≢ [] }
     requires small { length new.now ≤ MOST_BYTES }
     requires ascending { IsStrictlySortedBy nat_cmp (map (λ m. m.line) marks.now) }
@@ -165,7 +165,7 @@ pub(crate) fn replaced_text(
     source: &Source,
     old: &[u8],
     new: &[u8],
-    marks: &[NumberedPlace],
+    marks: &[FileLine],
 ) -> Result<Vec<u8>, AllocError>
     requires some { old.now ≢ [] }
     requires small { length new.now ≤ MOST_BYTES }

@@ -14,7 +14,7 @@ use Rattle.cb_index.specs.Bytes.{cut, place_at}
 use Rattle.cb_index.specs.Rows.{Fact}
 use Rattle.cb_index.specs.steps.Spread.{items_from}
 use Rattle.cb_index.specs.Scanned.{Scanned, facts_of}
-use Rattle.cb_index.specs.declared.entry.Entry.{Entry}
+use Rattle.cb_index.specs.declared.entry.Posting.{Posting}
 use Rattle.cb_index.specs.declared.entry.FactKind.{FactKind}
 use Rattle.cb_index.specs.declared.entry.FactKind.TheVariants.{Uses, Callees, Callers}
 
@@ -53,7 +53,7 @@ tag_in_text file number (Some text) =
     tag_of_def file text.bytes (slice_get (facts_of text).defs number)
 
 -- the tag of an entry
-abbrev pub tag_at : Archived → Entry → Tag
+abbrev pub tag_at : Archived → Posting → Tag
 tag_at a e = tag_in_text (name_of a e.name) e.number (text_at a e.version)
 
 -- ---- uses and calls
@@ -104,8 +104,8 @@ facts_in_text sort file number (Some text) =
     map (fact_at sort file text) (items_from sort text number)
 
 -- the facts of an entry
-abbrev pub facts_at : FactKind → Archived → Entry → List Fact
+abbrev pub facts_at : FactKind → Archived → Posting → List Fact
 facts_at sort a e = facts_in_text sort (name_of a e.name) e.number (text_at a e.version)
 
-abbrev pub facts_in : FactKind → Archived → List Entry → List Fact
+abbrev pub facts_in : FactKind → Archived → List Posting → List Fact
 facts_in sort a es = flat_map (facts_at sort a) es

@@ -8,7 +8,7 @@ use Rattle.cb_index.specs.steps.Chains.{chain_left}
 use Rattle.cb_index.specs.steps.Found.{fact_at}
 use Rattle.cb_index.specs.steps.Spread.{items_from}
 use Rattle.cb_index.specs.Scanned.{Scanned}
-use Rattle.cb_index.specs.declared.entry.Entry.{Entry}
+use Rattle.cb_index.specs.declared.entry.Posting.{Posting}
 use Rattle.cb_index.specs.declared.items.Chain.{Chain}
 use Rattle.cb_index.specs.declared.entry.FactKind.{FactKind}
 
@@ -26,9 +26,9 @@ given_in_text all sort file number (Some text) =
     map (fact_at sort file text) (filter (gives all sort text) (items_from sort text number))
 
 -- the facts of an entry
-abbrev pub given_at : Bool → FactKind → Archived → Entry → List Fact
+abbrev pub given_at : Bool → FactKind → Archived → Posting → List Fact
 given_at all sort a e =
     given_in_text all sort (name_of a e.name) e.number (text_at a e.version)
 
-abbrev pub given_in : Bool → FactKind → Archived → List Entry → List Fact
+abbrev pub given_in : Bool → FactKind → Archived → List Posting → List Fact
 given_in all sort a es = flat_map (given_at all sort a) es

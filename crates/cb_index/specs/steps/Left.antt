@@ -18,7 +18,7 @@ use Rattle.cb_index.specs.steps.ShownIn.{shown_in}
 use Rattle.cb_index.specs.steps.Searched.{searched_at, searched_count}
 use Rattle.cb_index.specs.Scanned.{Scanned, facts_of}
 use Rattle.cb_index.specs.declared.includes.Entries.{Entries}
-use Rattle.cb_index.specs.declared.entry.Entry.{Entry}
+use Rattle.cb_index.specs.declared.entry.Posting.{Posting}
 use Rattle.cb_index.specs.declared.entry.Shown.{Shown}
 use Rattle.cb_index.specs.declared.rows.FactRow.{FactRow}
 use Rattle.cb_index.specs.declared.rows.FactSpot.{FactSpot}
@@ -59,7 +59,7 @@ fact_of_spot s = record {
 }
 
 -- the definitions that are still to come
-abbrev pub defs_left : Defs → List Entry
+abbrev pub defs_left : Defs → List Posting
 defs_left (Indexed entries) = run_items entries
 defs_left (Searched search) = search_left search
 
@@ -104,7 +104,7 @@ spots_left r = walk_left false r.walk
 
 -- how many rows the groups that are still to come have; what has begun is not counted
 abbrev pub groups_counted : FactKind → Archived → Groups → ℕ
-groups_counted sort a (groups.Held entries) = sum_by (λ (e : Entry). e.rows) (run_items entries)
+groups_counted sort a (groups.Held entries) = sum_by (λ (e : Posting). e.rows) (run_items entries)
 groups_counted sort a (groups.Searched key shown) =
     sum_by (searched_count sort a key.now) (shown_in shown)
 

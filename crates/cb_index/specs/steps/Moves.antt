@@ -6,7 +6,7 @@ use Rattle.cb_index.specs.Files.{shown_under}
 use Rattle.cb_index.specs.Held.{Indexed}
 use Rattle.cb_index.specs.Names.{is_among}
 use Rattle.cb_index.specs.Shelved.{IsIndex}
-use Rattle.cb_index.specs.declared.entry.Entry.{Entry}
+use Rattle.cb_index.specs.declared.entry.Posting.{Posting}
 use Rattle.cb_index.specs.declared.entry.Shown.{Shown}
 
 -- each of some indexes becomes another one, in a way
@@ -47,5 +47,5 @@ pub record LetsGo (a : Archived) (one : Shown) (x y : Indexed) : Type 0 where
 -- what is shown under some names goes
 pub record LetsGoAll (names : List ℕ) (x y : Indexed) : Type 0 where
   pub itself : StaysItself x y
-  pub held : y.held ≡ filter (λ (e : Entry). not (is_among names e.name)) x.held
+  pub held : y.held ≡ filter (λ (e : Posting). not (is_among names e.name)) x.held
   pub pending : y.pending ≡ filter (λ (s : Shown). not (is_among names s.name)) x.pending

@@ -4,13 +4,13 @@ use Rattle.std.specs.List.{AllByRecursion}
 use Rattle.cb_scan.specs.Keys.{key_prefix}
 use Rattle.cb_index.specs.Archived.{Archived}
 use Rattle.cb_index.specs.Entries.{Keyer, key_of}
-use Rattle.cb_index.specs.declared.entry.Entry.{Entry}
+use Rattle.cb_index.specs.declared.entry.Posting.{Posting}
 
-abbrev pub prefix_of : Entry → ℕ
+abbrev pub prefix_of : Posting → ℕ
 prefix_of e = e.prefix
 
 -- an entry with another prefix
-abbrev pub with_prefix : ℕ → Entry → Entry
+abbrev pub with_prefix : ℕ → Posting → Posting
 with_prefix prefix e = record {
   prefix = prefix;
   name = e.name;
@@ -20,13 +20,13 @@ with_prefix prefix e = record {
 }
 
 -- the key of an entry begins with these bytes, and its prefix is made of those that follow
-abbrev pub IsDeep : Keyer → Archived → List ℕ → Entry → Type 0
+abbrev pub IsDeep : Keyer → Archived → List ℕ → Posting → Type 0
 IsDeep keyer a front e =
     (rest : List ℕ) × (key_of keyer a e ≡ front ++ rest) × AllByRecursion (λ b. b < 256) rest
     × (e.prefix ≡ key_prefix rest)
 
 -- the prefixes ahead of a place are below all those behind it
-abbrev pub IsBoundary : List Entry → ℕ → Type 0
+abbrev pub IsBoundary : List Posting → ℕ → Type 0
 IsBoundary es n =
-    (n ≤ length es) × ((p : ℕ) × AllByRecursion (λ (e : Entry). e.prefix < p) (take n es)
-    × AllByRecursion (λ (e : Entry). p ≤ e.prefix) (drop n es))
+    (n ≤ length es) × ((p : ℕ) × AllByRecursion (λ (e : Posting). e.prefix < p) (take n es)
+    × AllByRecursion (λ (e : Posting). p ≤ e.prefix) (drop n es))

@@ -4,7 +4,7 @@ use Rattle.std.specs.List.{flat_map}
 use Rattle.cb_index.specs.Archived.{Archived, text_at}
 use Rattle.cb_index.specs.Items.{later}
 use Rattle.cb_index.specs.Scanned.{Scanned}
-use Rattle.cb_index.specs.declared.entry.Entry.{Entry}
+use Rattle.cb_index.specs.declared.entry.Posting.{Posting}
 use Rattle.cb_index.specs.declared.sorted.Row.{Row}
 use Rattle.cb_index.specs.declared.entry.FactKind.{FactKind}
 
@@ -19,16 +19,16 @@ items_in_text sort item (Some text) = items_from sort text item
 
 -- the items of an entry: of a definition its number, of a use or a call also those behind it that
 -- have its key
-abbrev pub items_at : Option FactKind → Archived → Entry → List ℕ
+abbrev pub items_at : Option FactKind → Archived → Posting → List ℕ
 items_at None a e = e.number ∷ []
 items_at (Some sort) a e = items_in_text sort e.number (text_at a e.version)
 
 -- an item of an entry as a row
-abbrev pub row_of : Entry → ℕ → Row
+abbrev pub row_of : Posting → ℕ → Row
 row_of e item = record { name = e.name; version = e.version; item = item }
 
-abbrev pub rows_at : Option FactKind → Archived → Entry → List Row
+abbrev pub rows_at : Option FactKind → Archived → Posting → List Row
 rows_at sort a e = map (row_of e) (items_at sort a e)
 
-abbrev pub rows_in : Option FactKind → Archived → List Entry → List Row
+abbrev pub rows_in : Option FactKind → Archived → List Posting → List Row
 rows_in sort a es = flat_map (rows_at sort a) es

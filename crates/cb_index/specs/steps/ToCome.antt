@@ -11,38 +11,38 @@ use Rattle.cb_index.specs.Kinds.{keyer_of, lister_of, prefix_of}
 use Rattle.cb_index.specs.steps.Found.{tag_at}
 use Rattle.cb_index.specs.declared.entry.Asked.{Asked}
 use Rattle.cb_index.specs.declared.entry.Asked.TheVariants.{Every, OfKey, FromKey}
-use Rattle.cb_index.specs.declared.entry.Entry.{Entry}
+use Rattle.cb_index.specs.declared.entry.Posting.{Posting}
 use Rattle.cb_index.specs.declared.entry.Shown.{Shown}
 use Rattle.cb_index.specs.declared.entry.IndexKind.{IndexKind}
 
 -- whether an entry goes behind the last one that was given, if one was
-abbrev pub is_later : Keyer → Archived → Option Entry → Entry → Bool
+abbrev pub is_later : Keyer → Archived → Option Posting → Posting → Bool
 is_later keyer a None e = true
 is_later keyer a (Some last) e = not (goes_first (sort_key keyer a) e last)
 
 -- whether an entry is asked for: any one, one that has the key, or one whose key is not less
-abbrev pub is_asked : IndexKind → Archived → Asked → Entry → Bool
+abbrev pub is_asked : IndexKind → Archived → Asked → Posting → Bool
 is_asked kind a Every e = true
 is_asked kind a (OfKey key) e = has_key (keyer_of kind) a (prefix_of kind key.now) key.now e
 is_asked kind a (FromKey key) e =
     has_key_from (keyer_of kind) a (prefix_of kind key.now) key.now e
 
 -- whether an entry is still to come
-abbrev pub is_to_come : IndexKind → Archived → Asked → Option Entry → Entry → Bool
+abbrev pub is_to_come : IndexKind → Archived → Asked → Option Posting → Posting → Bool
 is_to_come kind a asked last e = is_later (keyer_of kind) a last e && is_asked kind a asked e
 
 -- of these entries the ones that are still to come, in order
-abbrev pub to_come : IndexKind → Archived → Asked → Option Entry → List Entry → List Entry
+abbrev pub to_come : IndexKind → Archived → Asked → Option Posting → List Posting → List Posting
 to_come kind a asked last es =
     in_order (sort_key (keyer_of kind) a) (filter (is_to_come kind a asked last) es)
 
 -- of an entry and of one before it, if there is one, the first
-abbrev pub earlier : Keyer → Archived → Option Entry → Entry → Entry
+abbrev pub earlier : Keyer → Archived → Option Posting → Posting → Posting
 earlier keyer a None e = e
 earlier keyer a (Some before) e = if goes_first (sort_key keyer a) e before then e else before
 
 -- the first one, if there is one
-abbrev pub first_of : List Entry → Option Entry
+abbrev pub first_of : List Posting → Option Posting
 first_of [] = None
 first_of (e ∷ es) = Some e
 
@@ -54,7 +54,7 @@ asked_tags kind a asked shown =
 
 -- whichever was given last, the first of those still to come is followed by those that are still to
 -- come once it was given
-abbrev pub GoesOn : IndexKind → Archived → Asked → List Entry → Type 0
+abbrev pub GoesOn : IndexKind → Archived → Asked → List Posting → Type 0
 GoesOn kind a asked es =
-    (last : Option Entry) (e : Entry) → first_of (to_come kind a asked last es) ≡ Some e
+    (last : Option Posting) (e : Posting) → first_of (to_come kind a asked last es) ≡ Some e
     → to_come kind a asked last es ≡ e ∷ to_come kind a asked (Some e) es

@@ -14,8 +14,8 @@ use Rattle.cb_index.proofs.RangeLemmas.{ahead_parts, behind_some, behind_taken}
 use Rattle.cb_index.specs.Kinds.{keyer_of}
 use Rattle.cb_index.proofs.index.take_one.Goals as goal
 
-pub place_of-place-requires-clause-parted : goal.place_of-place-requires-clause-parted
-place_of-place-requires-clause-parted c =
+pub lower_bound-place-requires-clause-parted : goal.lower_bound-place-requires-clause-parted
+lower_bound-place-requires-clause-parted c =
     let keyer = keyer_of c.args.kind in
     let a = c.args.archive.now in
     ahead_parts keyer a (Behind c.args.one) (joined c.used.result.now)
@@ -29,12 +29,12 @@ unreachable-requires c =
     let keyer = keyer_of c.args.kind in
     let a = c.args.archive.now in
     let one = c.args.one in
-    let k = c.place_of-place.result.block in
-    let j = c.place_of-place.result.at in
+    let k = c.lower_bound-place.result.block in
+    let j = c.lower_bound-place.result.at in
     let held = c.args.blocks.now.used in
     let place =
     subst (λ bs. IsPlaceOf (is_ahead keyer a (Behind one)) bs k j) c.used.ensures.value
-    c.place_of-place.ensures in
+    c.lower_bound-place.ensures in
     true≢false (behind_some keyer a one c.requires.0 (joined held) c.requires.1
     (subst (λ n. AllByRecursion (λ e. is_ahead keyer a (Behind one) e ≡ false)
     (drop (before held n 0) (joined held))) (place.start c.if-place-eq0.true)
@@ -46,13 +46,13 @@ returns-clause-taken c = λ rest is.
     let keyer = keyer_of c.args.kind in
     let a = c.args.archive.now in
     let one = c.args.one in
-    let k = c.place_of-place.result.block in
-    let j = c.place_of-place.result.at in
+    let k = c.lower_bound-place.result.block in
+    let j = c.lower_bound-place.result.at in
     let held = c.args.blocks.now.used in
     let some : 0 < j = omega (arith, c.if-place-eq0.false) in
     let place =
     subst (λ bs. IsPlaceOf (is_ahead keyer a (Behind one)) bs k j) c.used.ensures.value
-    c.place_of-place.ensures in
+    c.lower_bound-place.ensures in
     let fits = before_fits held k j (place_there held k j place.place some) place.place.1 in
     let next : before held k j ≡ suc (before held k (j - 1)) = omega (arith, some) in
     c.remove.ensures.taken

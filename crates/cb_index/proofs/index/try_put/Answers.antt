@@ -8,8 +8,8 @@ use Rattle.cb_index.proofs.RangeLemmas.{ahead_parts, behind_inserted}
 use Rattle.cb_index.specs.Kinds.{keyer_of}
 use Rattle.cb_index.proofs.index.try_put.Goals as goal
 
-pub place_of-place-requires-clause-parted : goal.place_of-place-requires-clause-parted
-place_of-place-requires-clause-parted c =
+pub lower_bound-place-requires-clause-parted : goal.lower_bound-place-requires-clause-parted
+lower_bound-place-requires-clause-parted c =
     let keyer = keyer_of c.args.kind in
     let a = c.args.archive.now in
     ahead_parts keyer a (Behind c.args.one) (joined c.used.result.now)
@@ -21,12 +21,12 @@ returns-clause-put c = λ is.
     let keyer = keyer_of c.args.kind in
     let a = c.args.archive.now in
     let one = c.args.one in
-    let k = c.place_of-place.result.block in
-    let j = c.place_of-place.result.at in
+    let k = c.lower_bound-place.result.block in
+    let j = c.lower_bound-place.result.at in
     let held = c.args.blocks.now.used in
     let place =
     subst (λ bs. IsPlaceOf (is_ahead keyer a (Behind one)) bs k j) c.used.ensures.value
-    c.place_of-place.ensures in
+    c.lower_bound-place.ensures in
     c.try_insert.ensures.put is
     ∙ behind_inserted keyer a one (before held k j) (joined held) c.requires place.ahead
     place.behind

@@ -6,7 +6,7 @@ use Rattle.cb_scan.specs.Keys.{key_prefix}
 use Rattle.cb_index.specs.Firsts.{listed}
 use Rattle.cb_index.specs.Held.{entry_of}
 use Rattle.cb_index.specs.Items.{is_first, item_count}
-use Rattle.cb_index.specs.declared.entry.Entry.{Entry}
+use Rattle.cb_index.specs.declared.entry.Posting.{Posting}
 use Rattle.cb_index.proofs.ItemLemmas.{firsts_found, firsts_from, firsts_passed}
 use Rattle.cb_index.proofs.order.append_firsts.Goals as goal
 use Rattle.cb_index.proofs.order.append_firsts.Goals.{then-is_first, else-is_first}
@@ -28,7 +28,7 @@ loop-item-preserved c =
           let more = ap length found in
           let room : vec_len old < vec_capacity old = omega (arith, more) in
           let pushed = w.push.ensures.succeeds room in
-          let entry : Entry = record {
+          let entry : Posting = record {
             prefix = w.key_prefix.result;
             name = shown.name;
             version = shown.version;

@@ -7,7 +7,7 @@ use Rattle.cb_index.specs.steps.Bounds.{is_below}
 use Rattle.cb_index.specs.steps.ShownIn.{shown_in}
 use Rattle.cb_index.specs.declared.entry.Shown.{Shown}
 use Rattle.cb_index.proofs.ListedLemmas.{any_from, first_settles, is_here}
-use Rattle.cb_index.proofs.ShownListLemmas.{ascending_later}
+use Rattle.cb_index.proofs.ShownLemmas.{ascending_later}
 use Rattle.cb_index.proofs.SortedLemmas.{all_behind}
 use Rattle.cb_index.proofs.shown.has_name.Goals as goal
 

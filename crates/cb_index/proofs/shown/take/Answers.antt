@@ -1,5 +1,5 @@
-use Rattle.std.proofs.Common.{◌≡◌, ◌∙◌, ◌<◌, ◌-◌, ◌++◌, ℕ, true, false, List, [], Option, Some, None}
-use Rattle.std.proofs.Common.{suc, sym, ap, subst, filter, take, drop, length, get_or, arith}
+use Rattle.std.proofs.Common.{◌≡◌, ◌∙◌, ◌<◌, ◌-◌, ◌++◌, ℕ, true, false, List, [], Option, Some}
+use Rattle.std.proofs.Common.{None, suc, sym, ap, subst, filter, take, drop, length, get_or, arith}
 use Rattle.std.specs.List.{AllByRecursion}
 use Rattle.cb_index.specs.Archived.{Archived, name_of}
 use Rattle.cb_index.specs.Blocks.{IsPlaceOf, before, joined}
@@ -7,8 +7,8 @@ use Rattle.cb_index.specs.Files.{AreAscending, shown_under}
 use Rattle.cb_index.specs.declared.entry.Shown.{Shown}
 use Rattle.cb_index.specs.steps.Bounds.{is_up_to}
 use Rattle.cb_index.proofs.BlockLemmas.{Lists, get_or_any, place_there}
-use Rattle.cb_index.proofs.ShownListLemmas.{IsOther, all_stay, back_others, none_under, place_found}
-use Rattle.cb_index.proofs.ShownListLemmas.{place_other, place_taken, stays, up_to_parts}
+use Rattle.cb_index.proofs.ShownLemmas.{IsOther, all_stay, back_others, none_under, place_found}
+use Rattle.cb_index.proofs.ShownLemmas.{place_other, place_taken, stays, up_to_parts}
 use Rattle.cb_index.proofs.shown.take.Goals as goal
 
 module _ (a : Archived) (name : ℕ) (bs : Lists Shown) (k j : ℕ)
@@ -78,28 +78,28 @@ moved a name bs held n k j same named is =
     subst (λ m. IsPlaceOf (is_up_to a m) held k j) named
     (subst (λ b. IsPlaceOf (is_up_to a n) b k j) same is)
 
-pub place_of-place-requires-clause-parted : goal.place_of-place-requires-clause-parted
-place_of-place-requires-clause-parted c =
+pub lower_bound-place-requires-clause-parted : goal.lower_bound-place-requires-clause-parted
+lower_bound-place-requires-clause-parted c =
     let a = c.args.archive.now in
     up_to_parts a c.name.result.now (joined c.used-used.result.now)
     (subst (λ bs. AreAscending a (joined bs)) (sym c.used-used.ensures.value) c.requires)
 
 pub returns-then-place-eq0-clause-taken : goal.returns-then-place-eq0-clause-taken
 returns-then-place-eq0-clause-taken c =
-    let place = c.place_of-place.result in
+    let place = c.lower_bound-place.result in
     none_ahead c.args.archive.now c.args.name c.args.blocks.now.used place.block place.at
     (moved c.args.archive.now c.args.name c.used-used.result.now _ _ place.block place.at
-    c.used-used.ensures.value c.name.ensures c.place_of-place.ensures) c.if-place-eq0.true
+    c.used-used.ensures.value c.name.ensures c.lower_bound-place.ensures) c.if-place-eq0.true
 
 pub returns-then-one-name-clause-taken : goal.returns-then-one-name-clause-taken
 returns-then-one-name-clause-taken c =
-    let place = c.place_of-place.result in
+    let place = c.lower_bound-place.result in
     let bs = c.used-used.result.now in
     let some : 0 < place.at = omega (arith, c.if-place-eq0.false) in
-    let low = place_there bs place.block place.at c.place_of-place.ensures.place some in
+    let low = place_there bs place.block place.at c.lower_bound-place.ensures.place some in
     other_number c.args.archive.now c.args.name c.args.blocks.now.used place.block place.at
     (moved c.args.archive.now c.args.name bs _ _ place.block place.at c.used-used.ensures.value
-    c.name.ensures c.place_of-place.ensures) some c.requires c.items.result.now
+    c.name.ensures c.lower_bound-place.ensures) some c.requires c.items.result.now
     (c.items.ensures.value ∙ c.index-used-place.is
     ∙ get_or_any bs place.block c.index-used-place.result [] low
     ∙ ap (λ b. get_or b place.block []) c.used-used.ensures.value)
@@ -107,14 +107,14 @@ returns-then-one-name-clause-taken c =
 
 pub returns-clause-taken : goal.returns-clause-taken
 returns-clause-taken c =
-    let place = c.place_of-place.result in
+    let place = c.lower_bound-place.result in
     let bs = c.used-used.result.now in
     let some : 0 < place.at = omega (arith, c.if-place-eq0.false) in
-    let low = place_there bs place.block place.at c.place_of-place.ensures.place some in
+    let low = place_there bs place.block place.at c.lower_bound-place.ensures.place some in
     let left =
     this_number c.args.archive.now c.args.name c.args.blocks.now.used place.block place.at
     (moved c.args.archive.now c.args.name bs _ _ place.block place.at c.used-used.ensures.value
-    c.name.ensures c.place_of-place.ensures) some c.requires c.items.result.now
+    c.name.ensures c.lower_bound-place.ensures) some c.requires c.items.result.now
     (c.items.ensures.value ∙ c.index-used-place.is
     ∙ get_or_any bs place.block c.index-used-place.result [] low
     ∙ ap (λ b. get_or b place.block []) c.used-used.ensures.value)

@@ -4,12 +4,12 @@ use Rattle.cb_index.specs.Blocks.{IsPlaceOf, before, joined}
 use Rattle.cb_index.specs.Files.{AreAscending, shown_name}
 use Rattle.cb_index.specs.steps.Bounds.{is_below}
 use Rattle.cb_index.proofs.InOrderLemmas.{length_put}
-use Rattle.cb_index.proofs.ShownListLemmas.{below_parts, put_between}
+use Rattle.cb_index.proofs.ShownLemmas.{below_parts, put_between}
 use Rattle.cb_index.proofs.shown.try_put.Goals as goal
 use Rattle.cb_index.proofs.shown.try_put.Goals.{After-try_insert}
 
-pub place_of-place-requires-clause-parted : goal.place_of-place-requires-clause-parted
-place_of-place-requires-clause-parted c =
+pub lower_bound-place-requires-clause-parted : goal.lower_bound-place-requires-clause-parted
+lower_bound-place-requires-clause-parted c =
     let a = c.args.archive.now in
     below_parts a c.name.result.now (joined c.used.result.now)
     (subst (λ bs. AreAscending a (joined bs)) (sym c.used.ensures.value) c.requires)
@@ -19,13 +19,13 @@ placed : (c : After-try_insert) → c.try_insert.result ≡ true
     ≡ put (shown_name c.args.archive.now) c.args.one (joined c.args.blocks.now.used)
 placed c is =
     let a = c.args.archive.now in
-    let k = c.place_of-place.result.block in
-    let j = c.place_of-place.result.at in
+    let k = c.lower_bound-place.result.block in
+    let j = c.lower_bound-place.result.at in
     let held = c.args.blocks.now.used in
     let place =
     subst (λ n. IsPlaceOf (is_below a n) held k j) c.name.ensures
     (subst (λ bs. IsPlaceOf (is_below a c.name.result.now) bs k j) c.used.ensures.value
-    c.place_of-place.ensures) in
+    c.lower_bound-place.ensures) in
     c.try_insert.ensures.put is
     ∙ put_between a c.args.one (before held k j) (joined held) place.ahead place.behind
 
@@ -35,5 +35,6 @@ returns-clause-put c = placed c
 pub returns-clause-len : goal.returns-clause-len
 returns-clause-len c = λ is.
     let size = ap length (placed c is) in
-    let more = length_put (shown_name c.args.archive.now) c.args.one (joined c.args.blocks.now.used) in
+    let more = length_put (shown_name c.args.archive.now) c.args.one (joined
+    c.args.blocks.now.used) in
     omega (arith, size, more)

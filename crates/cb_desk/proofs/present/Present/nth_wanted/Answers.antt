@@ -1,7 +1,7 @@
 use Rattle.std.proofs.Common.{rules, ◌≡◌, ◌∙◌, ◌<◌, ap, subst, sym, Some}
 use Rattle.std.specs.Bool.{⊤}
 use Rattle.std.specs.Option.{MatchOption, option_map}
-use Rattle.cb_desk.specs.declared.places.NumberedPlace.{NumberedPlace}
+use Rattle.cb_desk.specs.declared.places.FileLine.{FileLine}
 use Rattle.cb_desk.specs.Places.{nth}
 use Rattle.cb_desk.specs.steps.Records.{held_numbers, place_in, world_in}
 use Rattle.cb_desk.proofs.HeldRows.{wanted-held}
@@ -26,7 +26,7 @@ returns-clause-there c =
     let text = c.as_slice.result.now in
     let found : c.nth_held.result ≡ nth c.args.n (held_numbers k.archive text k.now.shown) =
     search rules in
-    subst (λ r. MatchOption r ⊤ (λ (p : NumberedPlace). p.name < k.now.names)) (sym found)
+    subst (λ r. MatchOption r ⊤ (λ (p : FileLine). p.name < k.now.names)) (sym found)
     (nth_below k.now.names c.args.n (held_numbers k.archive text k.now.shown)
     (all_held_below k.archive text k.now.names k.now.versions k.now.shown
     c.requires.kept.there.shown))

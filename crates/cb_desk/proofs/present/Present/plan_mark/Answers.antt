@@ -1,6 +1,6 @@
 use Rattle.std.proofs.Common.{rules, ◌≡◌, ◌∙◌, ap, ◌<◌, subst, sym, None, Some}
 use Rattle.std.specs.List.{AllByRecursion}
-use Rattle.cb_desk.specs.declared.places.NumberedPlace.{NumberedPlace}
+use Rattle.cb_desk.specs.declared.places.FileLine.{FileLine}
 use Rattle.cb_desk.specs.Marks.{toggled_at}
 use Rattle.cb_desk.specs.steps.Plans.{IsPlan, with_marks}
 use Rattle.cb_desk.specs.steps.Records.{place_in, toggled_numbers, world_in}
@@ -13,7 +13,7 @@ plan_marks-requires-clause-there c =
     let k = c.args.self.now in
     let marks : c.as_slice-2.result.now ≡ toggled_numbers k.archive c.args.place k.now.marks =
     search rules in
-    subst (AllByRecursion (λ (p : NumberedPlace). p.name < k.now.names)) (sym marks)
+    subst (AllByRecursion (λ (p : FileLine). p.name < k.now.names)) (sym marks)
     (toggled_below k.archive k.now.names c.args.place k.now.marks c.requires.there
     c.requires.kept.there.marks)
 

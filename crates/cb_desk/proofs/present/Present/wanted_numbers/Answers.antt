@@ -1,6 +1,6 @@
 use Rattle.std.proofs.Common.{rules, ◌≡◌, ◌∙◌, ◌<◌, ap, map, subst, sym, Some, IfOk}
 use Rattle.std.specs.List.{AllByRecursion}
-use Rattle.cb_desk.specs.declared.places.NumberedPlace.{NumberedPlace}
+use Rattle.cb_desk.specs.declared.places.FileLine.{FileLine}
 use Rattle.cb_desk.specs.Marks.{wanted_places}
 use Rattle.cb_desk.specs.steps.Records.{held_numbers, place_in, world_in}
 use Rattle.cb_desk.proofs.HeldRows.{wanted-held}
@@ -28,8 +28,8 @@ returns-in-Some-clause-there c =
     let held : IfOk c.held_numbers.result
     (λ made. made.items ≡ held_numbers k.archive text k.now.shown) = search rules in
     ok_along (λ made. made.items ≡ held_numbers k.archive text k.now.shown)
-    (λ made. AllByRecursion (λ (p : NumberedPlace). p.name < k.now.names) made.items)
+    (λ made. AllByRecursion (λ (p : FileLine). p.name < k.now.names) made.items)
     c.held_numbers.result
-    (λ made is. subst (AllByRecursion (λ (p : NumberedPlace). p.name < k.now.names)) (sym is)
+    (λ made is. subst (AllByRecursion (λ (p : FileLine). p.name < k.now.names)) (sym is)
     (all_held_below k.archive text k.now.names k.now.versions k.now.shown
     c.requires.kept.there.shown)) held

@@ -7,8 +7,8 @@ use Rattle.cb_index.specs.Blocks.{IsFilled, before, joined}
 use Rattle.cb_index.specs.steps.Bounds.{is_below}
 use Rattle.cb_index.proofs.BlockLemmas.{back_at, before_fits, get_or_any}
 use Rattle.cb_index.proofs.SortedLemmas.{parts_left, parts_places, parts_right}
-use Rattle.cb_index.proofs.ShownListLemmas.{all_later, below_parts, from_blocks, from_first}
-use Rattle.cb_index.proofs.ShownListLemmas.{nil_joined}
+use Rattle.cb_index.proofs.ShownLemmas.{all_later, below_parts, from_blocks, from_first}
+use Rattle.cb_index.proofs.ShownLemmas.{nil_joined}
 use Rattle.cb_index.proofs.files.ShownFiles.from_name.Goals as goal
 use Rattle.cb_index.proofs.files.ShownFiles.from_name.Goals.{
   then-at-self-via-then-at-self,
@@ -24,8 +24,8 @@ count_ahead-at-requires c =
     parts_places p first
     (parts_left p first rest (below_parts a c.args.name.now (first ++ rest) c.requires))
 
-pub place_of-place-requires-clause-parted : goal.place_of-place-requires-clause-parted
-place_of-place-requires-clause-parted c =
+pub lower_bound-place-requires-clause-parted : goal.lower_bound-place-requires-clause-parted
+lower_bound-place-requires-clause-parted c =
     let a = c.args.archive.now in
     let first = c.args.self.first.now in
     let rest = joined c.args.self.blocks.now in
@@ -57,17 +57,17 @@ pub invariant_of-result-2 : goal.invariant_of-result-2
 invariant_of-result-2 c =
     let first = c.args.self.first.now in
     let bs = c.args.self.blocks.now in
-    let k = c.place_of-place.result.block in
-    let j = c.place_of-place.result.at in
+    let k = c.lower_bound-place.result.block in
+    let j = c.lower_bound-place.result.at in
     let some : 0 < length bs = search rules in
-    let low : k < length bs = omega (arith, some, c.place_of-place.ensures.place.0) in
+    let low : k < length bs = omega (arith, some, c.lower_bound-place.ensures.place.0) in
     let next : k + 1 ≡ suc k = omega arith in
     let here : c.items.result.now ≡ get_or bs k [] =
     c.items.ensures.value
     ∙ get_or_any bs k c.index-self-place.result [] low in
     let rest = (λ i. (c.split_at-2.ensures.back ∙ ap (drop j) here) i
     ++ joined ((c.split_at-3.ensures.back ∙ ap (λ n. drop n bs) next) i))
-    ∙ sym (back_at bs k j low c.place_of-place.ensures.place.1) in
+    ∙ sym (back_at bs k j low c.lower_bound-place.ensures.place.1) in
     let fewer = length-drop (before bs k j) (joined bs) in
     let size = ap length rest in
     let whole = length-append first (joined bs) in
@@ -82,20 +82,20 @@ returns c =
     let a = c.args.archive.now in
     let first = c.args.self.first.now in
     let bs = c.args.self.blocks.now in
-    let k = c.place_of-place.result.block in
-    let j = c.place_of-place.result.at in
+    let k = c.lower_bound-place.result.block in
+    let j = c.lower_bound-place.result.at in
     let some : 0 < length bs = search rules in
-    let low : k < length bs = omega (arith, some, c.place_of-place.ensures.place.0) in
+    let low : k < length bs = omega (arith, some, c.lower_bound-place.ensures.place.0) in
     let next : k + 1 ≡ suc k = omega arith in
     let here : c.items.result.now ≡ get_or bs k [] =
     c.items.ensures.value
     ∙ get_or_any bs k c.index-self-place.result [] low in
-    let within = c.place_of-place.ensures.place.1 in (
+    let within = c.lower_bound-place.ensures.place.1 in (
       length first + before bs k j,
       from_blocks (is_below a c.args.name.now) c.count_ahead-at.result (before bs k j) first
           (joined bs) (omega (arith, c.if-at-self.false, c.count_ahead-at.ensures.bound))
           (before_fits bs k j low within) c.count_ahead-at.ensures.parted
-          c.place_of-place.ensures.ahead c.place_of-place.ensures.behind,
+          c.lower_bound-place.ensures.ahead c.lower_bound-place.ensures.behind,
       (λ i. (c.split_at-2.ensures.back ∙ ap (drop j) here) i
           ++ joined ((c.split_at-3.ensures.back ∙ ap (λ n. drop n bs) next) i))
           ∙ sym (back_at bs k j low within)

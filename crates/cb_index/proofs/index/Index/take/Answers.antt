@@ -1,5 +1,5 @@
-use Rattle.std.proofs.Common.{rules, ◌≡◌, ◌∙◌, ◌<◌, ◌++◌, List, [], ◌∷◌, sym, ap, subst, filter, length}
-use Rattle.std.proofs.Common.{nat_eq, arith}
+use Rattle.std.proofs.Common.{rules, ◌≡◌, ◌∙◌, ◌<◌, ◌++◌, List, [], ◌∷◌, sym, ap, subst, filter}
+use Rattle.std.proofs.Common.{length, nat_eq, arith}
 use Rattle.std.specs.List.{prefix_len, remove}
 use Rattle.std.specs.Prelude.{not}
 use Rattle.cb_scan.specs.Order.{in_order}
@@ -8,7 +8,7 @@ use Rattle.cb_index.specs.Entries.{sort_key}
 use Rattle.cb_index.specs.Held.{Indexed, all_entries, entries_of}
 use Rattle.cb_index.specs.Kinds.{keyer_of, lister_of}
 use Rattle.cb_index.specs.Names.{AreSingle, is_among}
-use Rattle.cb_index.specs.declared.entry.Entry.{Entry}
+use Rattle.cb_index.specs.declared.entry.Posting.{Posting}
 use Rattle.cb_index.specs.declared.entry.Shown.{Shown}
 use Rattle.cb_index.specs.declared.entry.IndexKind.{IndexKind}
 use Rattle.cb_index.proofs.CoverLemmas.{apart_back, apart_single, covers_held, covers_unheld}
@@ -17,7 +17,7 @@ use Rattle.cb_index.proofs.KeptLemmas.{of_its_kind}
 use Rattle.cb_index.proofs.index.Index.take.Goals as goal
 
 -- the entries of a version stand among those of an index of a kind
-abbrev HasOnes : Archived → Shown → List Entry → IndexKind → List Entry → Type 0
+abbrev HasOnes : Archived → Shown → List Posting → IndexKind → List Posting → Type 0
 HasOnes a one es kind rest =
     es ≡ in_order (sort_key (keyer_of kind) a) (entries_of (lister_of kind) a one ++ rest)
 
@@ -71,7 +71,7 @@ returns-then-has_few c =
     let old = c.self.inside.postings.items in
     let new = c.take_all.new.self.items in
     let taken =
-    subst (λ k. (rest : List Entry) → HasOnes a one old k rest
+    subst (λ k. (rest : List Posting) → HasOnes a one old k rest
     → new ≡ in_order (sort_key (keyer_of k) a) rest) kind c.take_all.ensures.entries in
     record {
       itself = search rules;
@@ -105,7 +105,7 @@ returns-else-has_few c =
           (covers_passed (keyer_of x.kind) (lister_of x.kind) a one shown x _ none
           (c.take_names.ensures.items
           ∙ ap (λ (x : Indexed). filter
-          (λ (e : Entry). not (is_among (one.name ∷ []) e.name)) x.held) c.self.view_is)
+          (λ (e : Posting). not (is_among (one.name ∷ []) e.name)) x.held) c.self.view_is)
           same is);
     }
 

@@ -10,7 +10,7 @@ use Rattle.cb_index.specs.steps.Found.{facts_in}
 use Rattle.cb_index.specs.steps.Given.{given_in}
 use Rattle.cb_index.specs.steps.Runs.{run_items}
 use Rattle.cb_index.specs.steps.Searched.{searched_at, searched_count}
-use Rattle.cb_index.specs.declared.entry.Entry.{Entry}
+use Rattle.cb_index.specs.declared.entry.Posting.{Posting}
 use Rattle.cb_index.specs.declared.entry.IndexKind.TheVariants.{Facts}
 use Rattle.cb_index.proofs.CountLemmas.{facts_counted, facts_new}
 use Rattle.cb_index.proofs.FactLemmas.{rows_of_facts}
@@ -74,7 +74,7 @@ returns-then-is_flushed-clause-counted c =
     let kept = c.self.invariant.0 in
     let kind = c.args.kind in
     let key = c.args.key.now in
-    c.held.ensures.counted ∙ ap (sum_by (λ (e : Entry). e.rows)) (asked c)
+    c.held.ensures.counted ∙ ap (sum_by (λ (e : Posting). e.rows)) (asked c)
     ∙ facts_counted kind s.archive key s.shown.items kept.there kept.ascending _ (held c)
     ∙ ap (λ (v : Shelved). rows_in_files kind (file_facts v.archive.profile kind key) (files v))
     c.self.view_is

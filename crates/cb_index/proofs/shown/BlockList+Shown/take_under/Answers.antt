@@ -1,7 +1,7 @@
 use Rattle.std.proofs.Common.{◌∙◌, length, ap, arith}
 use Rattle.std.proofs.lemmas.List.Sums.{count_by-le-length, length-filter}
 use Rattle.cb_index.specs.Blocks.{joined}
-use Rattle.cb_index.proofs.ShownListLemmas.{stays}
+use Rattle.cb_index.proofs.ShownLemmas.{stays}
 use Rattle.cb_index.proofs.shown.BlockList+Shown.take_under.Goals as goal
 
 pub invariant_of-self : goal.invariant_of-self

@@ -1,7 +1,7 @@
 use Rattle.std.proofs.Common.{◌≡◌, ◌∙◌, ap, sym, List, map, take, subst, nat_cmp}
 use Rattle.std.specs.List.{prefix_len}
 use Rattle.std.specs.List.Sorted.{IsStrictlySortedBy}
-use Rattle.cb_desk.specs.declared.places.NumberedPlace.{NumberedPlace}
+use Rattle.cb_desk.specs.declared.places.FileLine.{FileLine}
 use Rattle.cb_desk.specs.steps.Replaced.{places_in}
 use Rattle.cb_desk.proofs.MarksFound.{is_here, lines_found, lines_rise}
 use Rattle.cb_desk.proofs.present.replaced.Replacing.marks_of.Goals as goal
@@ -14,8 +14,8 @@ returns-clause-lines c =
     let mine : c.split_at-2.result.0.now ≡ take (prefix_len (is_here a name) rest) rest =
     c.split_at-2.ensures.front ∙ ap (λ n. take n rest) c.count_in-count.ensures.value in
     let parted = c.start_of-start.ensures.parted in
-    ap (map (λ (m : NumberedPlace). m.line)) (mine ∙ ap
-    (λ (l : List NumberedPlace). take (prefix_len (is_here a name) l) l) c.split_at.ensures.back)
+    ap (map (λ (m : FileLine). m.line)) (mine ∙ ap
+    (λ (l : List FileLine). take (prefix_len (is_here a name) l) l) c.split_at.ensures.back)
     ∙ lines_found a name c.args.self.marks.now c.args.self.ascending c.start_of-start.result
     c.start_of-start.ensures.within parted.0 parted.1
 

@@ -5,7 +5,7 @@ use Rattle.cb_index.specs.Blocks.{head_is}
 use Rattle.cb_index.proofs.BlockLemmas.{all_dropped, block_parts, get_or_any, heads_parted}
 use Rattle.cb_index.proofs.BlockLemmas.{place_ahead, place_behind, place_inside}
 use Rattle.cb_index.proofs.SortedLemmas.{parts_places}
-use Rattle.cb_index.proofs.blocks.place_of.Goals as goal
+use Rattle.cb_index.proofs.blocks.lower_bound.Goals as goal
 
 pub count_begun-begun-requires : goal.count_begun-begun-requires
 count_begun-begun-requires t c =

@@ -7,8 +7,8 @@ use Rattle.cb_index.specs.Held.{entries_of, entry_of, listed_of}
 use Rattle.cb_index.proofs.InOrderLemmas.{length_in_order}
 use Rattle.cb_index.proofs.PutLemmas.{parts_length}
 use Rattle.cb_index.specs.Kinds.{keyer_of, lister_of}
-use Rattle.cb_index.specs.declared.entry.Entry.{Entry}
-use Rattle.cb_index.proofs.index.BlockList+Entry.take_all.Goals as goal
+use Rattle.cb_index.specs.declared.entry.Posting.{Posting}
+use Rattle.cb_index.proofs.index.BlockList+Posting.take_all.Goals as goal
 
 -- what is held is no less than what goes
 pub append-requires : goal.append-requires
@@ -20,7 +20,7 @@ append-requires c =
     let size = length-map prefixes (entry_of c.args.shown) in
     let held =
     parts_length key (joined c.self.inside.blocks.used) gone c.requires.0
-    (ap (λ (h : Listing Entry). h.items) c.self.view_is ∙ c.requires.1) in
+    (ap (λ (h : Listing Posting). h.items) c.self.view_is ∙ c.requires.1) in
     let none : length c.truncate.new.self.items ≡ 0 = ap length c.truncate.ensures.items in
     omega (
       arith,
@@ -40,7 +40,7 @@ take_rest-requires c =
     let items : c.append.new.entries.items ≡ gone =
     c.append.ensures.entries ∙ ap (λ l. l ++ gone) c.truncate.ensures.items in (
       c.requires.0,
-      ap (λ (h : Listing Entry). h.items) c.self.view_is ∙ c.requires.1
+      ap (λ (h : Listing Posting). h.items) c.self.view_is ∙ c.requires.1
           ∙ ap (λ l. in_order key (l ++ c.requires.0)) (sym items),
     )
 
@@ -53,10 +53,10 @@ invariant_of-self c =
     c.append.ensures.entries ∙ ap (λ l. l ++ gone) c.truncate.ensures.items in
     let held =
     parts_length key (joined c.self.inside.blocks.used) gone c.requires.0
-    (ap (λ (h : Listing Entry). h.items) c.self.view_is ∙ c.requires.1) in
+    (ap (λ (h : Listing Posting). h.items) c.self.view_is ∙ c.requires.1) in
     let left : joined c.take_rest.new.blocks.used ≡ in_order key c.requires.0 =
     c.take_rest.ensures.taken c.requires.0
-    (ap (λ (h : Listing Entry). h.items) c.self.view_is ∙ c.requires.1
+    (ap (λ (h : Listing Posting). h.items) c.self.view_is ∙ c.requires.1
     ∙ ap (λ l. in_order key (l ++ c.requires.0)) (sym items)) in
     let size : length (joined c.take_rest.new.blocks.used) ≡ length c.requires.0 =
     ap length left ∙ length_in_order key c.requires.0 in (
@@ -80,5 +80,5 @@ returns-clause-entries c = λ rest is.
     let items : c.append.new.entries.items ≡ gone =
     c.append.ensures.entries ∙ ap (λ l. l ++ gone) c.truncate.ensures.items in
     c.take_rest.ensures.taken rest
-    (ap (λ (h : Listing Entry). h.items) c.self.view_is ∙ is
+    (ap (λ (h : Listing Posting). h.items) c.self.view_is ∙ is
     ∙ ap (λ l. in_order key (l ++ rest)) (sym items))

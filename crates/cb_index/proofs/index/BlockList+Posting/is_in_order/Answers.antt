@@ -7,7 +7,7 @@ use Rattle.cb_index.proofs.EntryLemmas.{sort_exact}
 use Rattle.cb_index.proofs.PutLemmas.{none_in_order}
 use Rattle.cb_index.proofs.SortedLemmas.{sorted_same}
 use Rattle.cb_index.specs.Kinds.{keyer_of}
-use Rattle.cb_index.proofs.index.BlockList+Entry.is_in_order.Goals as goal
+use Rattle.cb_index.proofs.index.BlockList+Posting.is_in_order.Goals as goal
 
 pub returns-in-None : goal.returns-in-None
 returns-in-None c = λ is.

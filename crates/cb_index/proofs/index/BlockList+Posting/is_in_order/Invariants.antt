@@ -3,7 +3,7 @@ use Rattle.cb_scan.proofs.OrderLemmas.{Sorted}
 use Rattle.cb_index.specs.Entries.{sort_key}
 use Rattle.cb_index.specs.steps.Runs.{run_items}
 use Rattle.cb_index.specs.Kinds.{keyer_of}
-use Rattle.cb_index.proofs.index.BlockList+Entry.is_in_order.Given as goal
+use Rattle.cb_index.proofs.index.BlockList+Posting.is_in_order.Given as goal
 
 abbrev pub decreases-loop-entry : goal.decreases-loop-entry
 decreases-loop-entry l = length (run_items l.left)

@@ -10,7 +10,7 @@ use Rattle.cb_index.specs.declared.entry.Shown.{Shown}
 use Rattle.cb_index.proofs.EntryLemmas.{sort_exact}
 use Rattle.cb_index.proofs.PutLemmas.{again_in_order, order_front, parts_same}
 use Rattle.cb_index.specs.Kinds.{keyer_of, lister_of}
-use Rattle.cb_index.proofs.index.BlockList+Entry.put_each.Goals as goal
+use Rattle.cb_index.proofs.index.BlockList+Posting.put_each.Goals as goal
 
 -- the room is for all of them
 pub put_all-requires-clause-room : goal.put_all-requires-clause-room

@@ -3,7 +3,7 @@ use Rattle.cb_scan.specs.Order.{in_order}
 use Rattle.cb_index.specs.Entries.{sort_key}
 use Rattle.cb_index.specs.Held.{all_entries}
 use Rattle.cb_index.specs.Kinds.{keyer_of, lister_of}
-use Rattle.cb_index.proofs.index.BlockList+Entry.put_each.Given as goal
+use Rattle.cb_index.proofs.index.BlockList+Posting.put_each.Given as goal
 
 -- the entries that are put and those that are not are the old and the new ones
 abbrev pub invariant-loop-one : goal.invariant-loop-one
