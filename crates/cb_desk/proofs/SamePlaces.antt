@@ -2,7 +2,7 @@
 use Rattle.std.proofs.Common.{◌≡◌, refl, ap, Bool, true, false, ◌&&◌, eqb}
 use Rattle.std.proofs.lemmas.Bool.Decides.{Decides-eqb}
 use Rattle.std.specs.Bool.{Decides}
-use Rattle.cb_desk.specs.contracts.places.NumberedPlacePartialEq.TheImpl.{eq-value}
+use Rattle.cb_desk.specs.contracts.places.FileLinePartialEq.TheImpl.{eq-value}
 use Rattle.cb_desk.specs.declared.places.FileLine.{FileLine}
 
 both_parts : (x y : Bool) → (x && y) ≡ true → (x ≡ true) × (y ≡ true)
