@@ -20,7 +20,8 @@ use Rattle.cb_scan.proofs.OrderLemmas.{Sorted, all_first}
 
 -- what is made, some more, one element, and what is left of both lists
 pub one_taken : {X : Type 0} → (made some rest : List X) (x : X) (xs : List X)
-    → IsPermutation (made ++ ((x ∷ xs) ++ (some ++ rest))) (((made ++ some) ++ (x ∷ [])) ++ (xs ++ rest))
+    → IsPermutation (made ++ ((x ∷ xs) ++ (some ++ rest)))
+    (((made ++ some) ++ (x ∷ [])) ++ (xs ++ rest))
 one_taken made some rest x xs =
     subst (λ l. IsPermutation (made ++ l) (((made ++ some) ++ (x ∷ [])) ++ (xs ++ rest)))
     (append_assoc (x ∷ xs) some rest)
@@ -35,20 +36,24 @@ one_taken made some rest x xs =
 pub one_turn : {X : Type 0} → (given made first rest more items left : List X) (i n : ℕ) (x : X)
     → IsPermutation given (made ++ (drop i first ++ rest))
     → more ≡ made ++ take n rest → items ≡ more ++ (x ∷ []) → left ≡ drop n rest
-    → drop i first ≡ x ∷ drop (i + 1) first → IsPermutation given (items ++ (drop (i + 1) first ++ left))
+    → drop i first ≡ x ∷ drop (i + 1) first
+    → IsPermutation given (items ++ (drop (i + 1) first ++ left))
 one_turn given made first rest more items left i n x moved more_is pushed left_is next =
     let is : items ≡ (made ++ take n rest) ++ (x ∷ []) = pushed ∙ ap (λ l. l ++ (x ∷ [])) more_is in
-    let whole : IsPermutation given (made ++ ((x ∷ drop (i + 1) first) ++ (take n rest ++ drop n rest))) =
+    let whole : IsPermutation given
+    (made ++ ((x ∷ drop (i + 1) first) ++ (take n rest ++ drop n rest))) =
     subst (IsPermutation given) (λ j. made ++ (next j ++ sym (take-append-drop n rest) j)) moved in
     subst (IsPermutation given) (λ j. sym is j ++ (drop (i + 1) first ++ sym left_is j))
-    (IsPermutation-trans given _ _ whole (one_taken made (take n rest) (drop n rest) x (drop (i + 1) first)))
+    (IsPermutation-trans given _ _ whole
+    (one_taken made (take n rest) (drop n rest) x (drop (i + 1) first)))
 
 -- its end
 pub at_end : {X : Type 0} → (given made first rest items : List X) (i : ℕ)
     → IsPermutation given (made ++ (drop i first ++ rest)) → length first ≤ i → items ≡ made ++ rest
     → IsPermutation given items
 at_end given made first rest items i moved past is =
-    subst (IsPermutation given) (ap (λ l. made ++ (l ++ rest)) (drop_of_length-le first past) ∙ sym is) moved
+    subst (IsPermutation given)
+    (ap (λ l. made ++ (l ++ rest)) (drop_of_length-le first past) ∙ sym is) moved
 
 -- an element whose key begins with a lower number goes first
 pub lower_first : {X : Type 0} → (key : X → List ℕ) (x y : X) (a b : ℕ) (us vs : List ℕ)
@@ -69,7 +74,8 @@ call_earlier c d = lower_first call_key c d c.callee.start d.callee.start _ _ re
 module _ {X : Type 0} (key : X → List ℕ) (place_of : X → ℕ)
     (earlier : (x y : X) → place_of x < place_of y → goes_first key x y ≡ true) where
   -- elements whose places ascend are sorted
-  pub sorted_from_ascending : (place : ℕ) (xs : List X) → ascend_from place_of place xs ≡ true → Sorted key xs
+  pub sorted_from_ascending : (place : ℕ) (xs : List X)
+      → ascend_from place_of place xs ≡ true → Sorted key xs
   sorted_from_ascending place [] is = tt
   sorted_from_ascending place (x ∷ []) is = (tt, tt)
   sorted_from_ascending place (x ∷ y ∷ ys) is =
@@ -98,5 +104,6 @@ all_four first second third fourth front back all in_front in_back moved =
     (IsPermutation-append_left (third ++ fourth) _ _ in_front)
     (IsPermutation-trans (front ++ (third ++ fourth)) (front ++ back) all
     (IsPermutation-append_right front _ _
-    (IsPermutation-trans (third ++ fourth) (fourth ++ third) back (IsPermutation-append_comm third fourth) in_back))
+    (IsPermutation-trans (third ++ fourth) (fourth ++ third) back
+    (IsPermutation-append_comm third fourth) in_back))
     moved))

@@ -108,7 +108,7 @@ call_before (Some caller) (Some name) t =
 call_before (Some caller) None t = None
 call_before None last t = None
 
--- a token, if it is a name, which alone may be called
+-- the token if it is a name: only a name can be called
 abbrev pub callable : Token → Option Token
 callable t = if is_name_token t.role then Some t else None
 

@@ -172,7 +172,7 @@ fn merged<T: Placed>(alloc: Global, first: &[T], second: &[T]) -> Result<Vec<T>,
     Ok(all)
 }
 
-/// All definitions. Where each list is in order, so are they.
+/// All definitions. Where each list is in order, they mostly are, too.
 fn all_defs(
     alloc: Global,
     functions: &[Def],

@@ -58,7 +58,7 @@ fn call_before(body: Option<Span>, last: Option<Token>, token: &Token) -> Option
     }
 }
 
-/// A token, if it is a name, which alone may be called. So little is kept of most tokens.
+/// The token if it is a name: only a name can be called. Most tokens are then not copied.
 #[inline(always)]
 fn callable(token: Token) -> Option<Token>
     ensures { result ≡ callable token }

@@ -15,7 +15,7 @@ use std::marker::Model;
 pub(crate) struct Levels {
     first: Option<Level>,
     around: Vec<Level>,
-    /// Whether the innermost level is a block, which is asked for each token.
+    /// Whether the innermost level is a block. It is looked at for every token.
     in_block: bool,
 }
 
@@ -95,7 +95,7 @@ impl Levels {
             }
             first => {
                 self.first = first;
-                self.in_block = matches!(first, Some(Level::Block));
+                self.in_block = false;
             }
         }
     }
@@ -133,7 +133,6 @@ impl Levels {
     {
         if let Some(level) = &mut self.first {
             level.add(ahead, item);
-            self.in_block = matches!(level, Level::Block);
         }
     }
 }

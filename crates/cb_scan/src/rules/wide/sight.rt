@@ -198,7 +198,7 @@ impl Sight {
     }
 }
 
-/// A sight, and whether it is idle, which is asked for each token.
+/// A sight, and whether it is idle, which is looked at for most tokens in blocks.
 #[derive(Drop)]
 pub(crate) struct Watch {
     sight: Sight,

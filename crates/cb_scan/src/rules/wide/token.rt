@@ -28,7 +28,7 @@ impl WideToken {
     }
 }
 
-/// A token with what it is, by what is directly before it.
+/// A token of this role, which counts as a `{` by what is directly before it.
 #[inline(always)]
 pub(crate) fn token_as(role: WideRole, before: Before, token: &Token) -> WideToken
     ensures { result ≡ token_as role before token.now }

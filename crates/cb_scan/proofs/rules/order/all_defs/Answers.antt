@@ -14,5 +14,6 @@ returns c =
     (all_four c.args.functions.now c.args.macros.now c.args.typedefs.now c.args.structures.now
     c.in_ok-named.named.items c.in_ok-declared.declared.items all.items
     c.in_ok-named.ensures c.in_ok-declared.ensures
-    (subst (λ l. IsPermutation l all.items) (λ i. c.as_slice.ensures.value i ++ c.as_slice-2.ensures.value i) moved))))
+    (subst (λ l. IsPermutation l all.items)
+    (λ i. c.as_slice.ensures.value i ++ c.as_slice-2.ensures.value i) moved))))
     c.merged-3.ensures

@@ -18,4 +18,5 @@ loop-item-preserved g c = record {
 pub returns : goal.returns
 returns g c =
     at_end _ c.loop-item.all.items c.args.first.now c.loop-item.rest.now _ c.loop-item.item-index
-    c.loop-item.invariant.moved (omega (arith, c.loop-item-test.false)) c.in_ok-extend_from_slice-2.ensures.items
+    c.loop-item.invariant.moved (omega (arith, c.loop-item-test.false))
+    c.in_ok-extend_from_slice-2.ensures.items
