@@ -24,16 +24,21 @@ use Rattle.cb_scan.proofs.WithinLemmas.{all-append}
 -- the reader with these fields
 abbrev pub reader_of : Before → Attribute → Sight → List WideToken → List WideToken → Reader
 reader_of before a sight raw bare =
-    record { before = before; attribute = a; sight = sight; raw = raw; bare = bare }
+    record {
+      before = before;
+      attribute = a;
+      sight = sight;
+      window = record { bare = bare; raw = raw };
+    }
 
 -- what is held back then is no more than it may be, and nothing is lost
 pub record IsHeld (bare : List WideToken) (a : Attribute) (raw items : List WideToken) (h : Reader)
     : Type 0 where
-  pub few_raw : length h.raw ≤ 2
-  pub few_bare : length h.bare ≤ 5
-  pub raw_inner : AllByRecursion IsInner h.raw
-  pub bare_inner : AllByRecursion IsInner h.bare
-  pub kept : h.bare ++ kept_from h.attribute (h.raw ++ items) ≡ bare ++ kept_from a (raw ++ items)
+  pub few_raw : length h.window.raw ≤ 2
+  pub few_bare : length h.window.bare ≤ 5
+  pub raw_inner : AllByRecursion IsInner h.window.raw
+  pub bare_inner : AllByRecursion IsInner h.window.bare
+  pub kept : h.window.bare ++ kept_from h.attribute (h.window.raw ++ items) ≡ bare ++ kept_from a (raw ++ items)
 
 module _ (before : Before) (sight : Sight) (a : Attribute) (bare : List WideToken) (x : WideToken)
     (items : List WideToken) (inner : IsInner x) (few : length bare ≤ 4)
@@ -81,11 +86,15 @@ module _ (before : Before) (sight : Sight) (a : Attribute) (bare : List WideToke
   held_is (y ∷ z ∷ u ∷ s) le all = absurd (omega arith)
 
 pub held_before : (r : Reader) (x : WideToken) → (held r x).before ≡ r.before
-held_before r x = elim (length (with_raw r x).raw == 3) as
+held_before r x = elim (length (with_raw r x).window.raw == 3) as
     (λ b. (if b then settled (with_raw r x) else with_raw r x).before ≡ r.before)
     [ true ↦ refl | false ↦ refl ]
 
-pub emptied_is : (r : Reader) → emptied r ≡ record r { bare = left_of r.bare }
-emptied_is r = elim (length r.bare == 5) as
-    (λ b. (if b then record r { bare = drop 1 r.bare } else r)
-    ≡ record r { bare = if b then drop 1 r.bare else r.bare }) [ true ↦ refl | false ↦ refl ]
+-- the reader with these tokens that are of no attribute
+abbrev pub with_bare : Reader → List WideToken → Reader
+with_bare r bare = record r { window = record r.window { bare = bare } }
+
+pub emptied_is : (r : Reader) → emptied r ≡ with_bare r (left_of r.window.bare)
+emptied_is r = elim (length r.window.bare == 5) as
+    (λ b. (if b then with_bare r (drop 1 r.window.bare) else r)
+    ≡ with_bare r (if b then drop 1 r.window.bare else r.window.bare)) [ true ↦ refl | false ↦ refl ]

@@ -31,7 +31,7 @@ use Rattle.cb_scan.specs.steps.wide.Tokens.{tokens_from}
 use Rattle.cb_scan.proofs.FunctionsRise.{all_implied}
 use Rattle.cb_scan.proofs.WideAttributes.{kept_from_start}
 use Rattle.cb_scan.proofs.WideBlocks.{IsDeep, IsRead, deep_next, in_block}
-use Rattle.cb_scan.proofs.WideHeld.{emptied_is, held_before, held_is}
+use Rattle.cb_scan.proofs.WideHeld.{emptied_is, held_before, held_is, with_bare}
 use Rattle.cb_scan.proofs.WideRuns.{kept_all, kept_run, run_is}
 use Rattle.cb_scan.proofs.WideSegments.{IsInner, ends_none}
 use Rattle.cb_scan.proofs.WideSights as sights
@@ -65,16 +65,16 @@ unopened_same t o = record { lists_are = refl; body_is = refl }
 
 -- outside of blocks few tokens are held back
 record IsOuter (r : Reader) (t : Taken) : Type 0 where
-  few_raw : length r.raw ≤ 2
-  few_bare : length r.bare ≤ 4
-  raw_inner : AllByRecursion IsInner r.raw
-  bare_inner : AllByRecursion IsInner r.bare
+  few_raw : length r.window.raw ≤ 2
+  few_bare : length r.window.bare ≤ 4
+  raw_inner : AllByRecursion IsInner r.window.raw
+  bare_inner : AllByRecursion IsInner r.window.bare
   state : IsOutside t
 
 -- nothing is held back
 record IsEmpty (r : Reader) : Type 0 where
-  no_raw : r.raw ≡ []
-  no_bare : r.bare ≡ []
+  no_raw : r.window.raw ≡ []
+  no_bare : r.window.bare ≡ []
   no_attribute : r.attribute ≡ Outside
 
 -- inside a block nothing is, and the sight has been along these tokens
@@ -115,7 +115,7 @@ module _ (text : List ℕ) (Holds : Reader → Taken → List Token → List Wid
   -- from the tokens to come on
   record HoldsFrom (ts : List Token) : Type 0 where
     outer : (r : Reader) (t : Taken) → IsOuter r t
-        → Holds r t ts (r.bare ++ kept_from r.attribute (r.raw ++ coming text r ts))
+        → Holds r t ts (r.window.bare ++ kept_from r.attribute (r.window.raw ++ coming text r ts))
     along : (r : Reader) (t : Taken) (s : List WideToken) → IsAlong r t s
         → Holds r t ts (without_attributes (s ++ coming text r ts))
 
@@ -211,17 +211,17 @@ module _ (text : List ℕ) (Holds : Reader → Taken → List Token → List Wid
 
     -- outside of blocks
     outer_mark : (t : Taken) → IsOuter r t → ends_attribute item.role ≡ true
-        → Holds r t (token ∷ ts) (r.bare ++ kept_from r.attribute (r.raw ++ item ∷ rest))
+        → Holds r t (token ∷ ts) (r.window.bare ++ kept_from r.attribute (r.window.raw ++ item ∷ rest))
     outer_mark t is ends =
-        let s = kept_from r.attribute r.raw in
-        let held_back = r.bare ++ s in
+        let s = kept_from r.attribute r.window.raw in
+        let held_back = r.window.bare ++ s in
         let all : AllByRecursion IsInner held_back =
-        all-append IsInner r.bare s is.bare_inner (kept_inner r.attribute r.raw is.raw_inner) in
+        all-append IsInner r.window.bare s is.bare_inner (kept_inner r.attribute r.window.raw is.raw_inner) in
         let taken = taken_is t false true is.state.outside ends in
         subst (Holds r t (token ∷ ts))
-        (append_assoc r.bare s (item ∷ without_attributes rest)
-        ∙ ap (λ l. r.bare ++ (s ++ item ∷ l)) (sym (kept_from_start rest))
-        ∙ ap (λ l. r.bare ++ l) (sym (kept_run item rest ends r.attribute r.raw)))
+        (append_assoc r.window.bare s (item ∷ without_attributes rest)
+        ∙ ap (λ l. r.window.bare ++ (s ++ item ∷ l)) (sym (kept_from_start rest))
+        ∙ ap (λ l. r.window.bare ++ l) (sym (kept_run item rest ends r.attribute r.window.raw)))
         (at_mark r t token ts held_back all ends taken
         (turned_from t (take_all t held_back) (turned false before_next) ends
         (deep_all t held_back all is.state.deep)
@@ -229,32 +229,32 @@ module _ (text : List ℕ) (Holds : Reader → Taken → List Token → List Wid
         (reader_is t false true is.state.outside ends) taken))
 
     outer_inner : (t : Taken) → IsOuter r t → ends_attribute item.role ≡ false
-        → Holds r t (token ∷ ts) (r.bare ++ kept_from r.attribute (r.raw ++ item ∷ rest))
+        → Holds r t (token ∷ ts) (r.window.bare ++ kept_from r.attribute (r.window.raw ++ item ∷ rest))
     outer_inner t is isnt =
         let h = held before_next item in
-        let facts = held_is (before_after r.before token) r.sight r.attribute r.bare item rest
-        (is_inner isnt) is.few_bare is.bare_inner r.raw is.few_raw is.raw_inner in
-        let e : Reader = record h { bare = left_of h.bare } in
-        let u = taken_of t h.bare in
+        let facts = held_is (before_after r.before token) r.sight r.attribute r.window.bare item rest
+        (is_inner isnt) is.few_bare is.bare_inner r.window.raw is.few_raw is.raw_inner in
+        let e : Reader = with_bare h (left_of h.window.bare) in
+        let u = taken_of t h.window.bare in
         let same_before : h.before ≡ before_after r.before token = held_before before_next item in
         let reader : reader_after text r t token ≡ e =
         reader_is t false false is.state.outside isnt ∙ emptied_is h in
         let taken : taken_after text r t token ≡ u = taken_is t false false is.state.outside isnt in
-        let bare = kept_from h.attribute (h.raw ++ rest) in
+        let bare = kept_from h.attribute (h.window.raw ++ rest) in
         subst (Holds r t (token ∷ ts))
         (facts.kept
-        ∙ ap (λ l. r.bare ++ kept_from r.attribute l) (append_assoc r.raw (item ∷ []) rest))
-        (within r t token ts h.bare bare facts.few_bare facts.bare_inner (is_inner isnt) taken
-        (subst (λ z. Holds z (taken_after text r t token) ts (left_of h.bare ++ bare)) (sym reader)
-        (subst (λ v. Holds e v ts (left_of h.bare ++ bare)) (sym taken)
+        ∙ ap (λ l. r.window.bare ++ kept_from r.attribute l) (append_assoc r.window.raw (item ∷ []) rest))
+        (within r t token ts h.window.bare bare facts.few_bare facts.bare_inner (is_inner isnt) taken
+        (subst (λ z. Holds z (taken_after text r t token) ts (left_of h.window.bare ++ bare)) (sym reader)
+        (subst (λ v. Holds e v ts (left_of h.window.bare ++ bare)) (sym taken)
         (subst (λ b. Holds e u ts
-        (left_of h.bare ++ kept_from h.attribute (h.raw ++ tokens_from text b ts))) same_before
+        (left_of h.window.bare ++ kept_from h.attribute (h.window.raw ++ tokens_from text b ts))) same_before
         (reads.outer e u (record {
           few_raw = facts.few_raw;
-          few_bare = left_few h.bare facts.few_bare;
+          few_bare = left_few h.window.bare facts.few_bare;
           raw_inner = facts.raw_inner;
-          bare_inner = left_inner h.bare facts.bare_inner;
-          state = outside_taken t h.bare facts.bare_inner is.state;
+          bare_inner = left_inner h.window.bare facts.bare_inner;
+          state = outside_taken t h.window.bare facts.bare_inner is.state;
         }))))))
 
     -- inside a block
@@ -315,17 +315,17 @@ module _ (text : List ℕ) (Holds : Reader → Taken → List Token → List Wid
   unfolding tokens_from
   holds_at_end = record {
     outer = λ r t is.
-        let held_back = r.bare ++ kept_from r.attribute r.raw in
+        let held_back = r.window.bare ++ kept_from r.attribute r.window.raw in
         let same : taken_at_end r t ≡ take_all t held_back =
         ap (λ b. if b then t else take_all t held_back) is.state.outside in
-        subst (λ l. Holds r t [] (r.bare ++ kept_from r.attribute l)) (sym (append-nil r.raw))
+        subst (λ l. Holds r t [] (r.window.bare ++ kept_from r.attribute l)) (sym (append-nil r.window.raw))
         (at_end r t held_back (moved same (unopened_same (take_all t held_back)
         (take_all t held_back).pass.opening) refl));
     along = λ r t s is.
         let bare = without_attributes (s ++ []) in
         let all : AllByRecursion IsInner (s ++ []) = all-append IsInner s [] is.inner tt in
         at_end r t bare
-        (moved (ap (λ b. if b then t else take_all t (released r).bare) is.inside)
+        (moved (ap (λ b. if b then t else take_all t (released r).window.bare) is.inside)
         (unopened_same t (opening_along t.pass.opening bare))
         (sym (in_block t bare (kept_all IsInner 0 (s ++ []) all) is.inside is.deep)));
   }

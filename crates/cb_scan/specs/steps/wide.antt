@@ -9,6 +9,7 @@ pub mod Functions
 pub mod Gathering
 pub mod Givens
 pub mod Heads
+pub mod HeldBack
 pub mod Joint
 pub mod Levels
 pub mod Lists

@@ -20,6 +20,7 @@ use Rattle.cb_scan.specs.rules.wide.Attributes.{ends_attribute}
 use Rattle.cb_scan.specs.steps.Functions.{before_after, is_after_linkage}
 use Rattle.cb_scan.specs.steps.wide.Attributes.{kept_from, leaves_out, next_attribute, open_count}
 use Rattle.cb_scan.specs.steps.wide.Contents.{are_in_block}
+use Rattle.cb_scan.specs.steps.wide.HeldBack.{HeldBack}
 use Rattle.cb_scan.specs.steps.wide.Lists.{Lists}
 use Rattle.cb_scan.specs.steps.wide.Pass.{Taken, take_all, take_first}
 use Rattle.cb_scan.specs.steps.wide.Sights.{look, open_in_phase, sight_opening, sight_start}
@@ -37,39 +38,43 @@ reader_start = record {
   before = Anything;
   attribute = Outside;
   sight = sight_start;
-  raw = [];
-  bare = [];
+  window = record { bare = []; raw = [] };
 }
 
 -- the first token, of which it is known whether it is of an attribute: it is left out or kept
+abbrev pub settled_back : Bool → HeldBack → HeldBack
+settled_back out w = record {
+  bare = if out then w.bare else w.bare ++ take 1 w.raw;
+  raw = drop 1 w.raw;
+}
+
 abbrev pub settled : Reader → Reader
 settled r = record r {
-  attribute = next_attribute r.attribute r.raw;
-  raw = drop 1 r.raw;
-  bare = if leaves_out r.attribute r.raw then r.bare else r.bare ++ take 1 r.raw;
+  attribute = next_attribute r.attribute r.window.raw;
+  window = settled_back (leaves_out r.attribute r.window.raw) r.window;
 }
 
 -- after one more token: three are enough to know it of the first
 abbrev pub with_raw : Reader → WideToken → Reader
-with_raw r x = record r { raw = r.raw ++ (x ∷ []) }
+with_raw r x = record r { window = record r.window { raw = r.window.raw ++ (x ∷ []) } }
 
 abbrev pub held : Reader → WideToken → Reader
-held r x = if length (with_raw r x).raw == 3 then settled (with_raw r x) else with_raw r x
+held r x = if length (with_raw r x).window.raw == 3 then settled (with_raw r x) else with_raw r x
 
 -- all of them, where nothing that is to come is seen from them
 abbrev pub released : Reader → Reader
 released r = record r {
   attribute = Outside;
-  raw = [];
-  bare = r.bare ++ kept_from r.attribute r.raw;
+  window = record { bare = r.window.bare ++ kept_from r.attribute r.window.raw; raw = [] };
 }
 
 -- five are enough to take the first
 abbrev pub is_full : Reader → Bool
-is_full r = length r.bare == 5
+is_full r = length r.window.bare == 5
 
 abbrev pub emptied : Reader → Reader
-emptied r = if is_full r then record r { bare = drop 1 r.bare } else r
+emptied r =
+    if is_full r then record r { window = record r.window { bare = drop 1 r.window.bare } } else r
 
 -- the first of some tokens is taken
 abbrev pub first_taken : Taken → List WideToken → Taken
@@ -77,11 +82,11 @@ first_taken t [] = t
 first_taken t (x ∷ xs) = take_first t (x ∷ xs) x
 
 abbrev pub taken_if_full : Reader → Taken → Taken
-taken_if_full r t = if is_full r then first_taken t r.bare else t
+taken_if_full r t = if is_full r then first_taken t r.window.bare else t
 
 -- how many tokens are held back
 abbrev pub held_len : Reader → ℕ
-held_len r = length r.raw + length r.bare
+held_len r = length r.window.raw + length r.window.bare
 
 -- ---- one token
 
@@ -92,12 +97,14 @@ opened_by o t = record t { pass = record t.pass { opening = o } }
 -- all that is held back is taken before a brace or a `;`
 abbrev pub all_taken : Bool → Reader → Taken → Taken
 all_taken in_block r t =
-    if in_block then opened_by (sight_opening r.sight) t else take_all t (released r).bare
+    if in_block then opened_by (sight_opening r.sight) t else take_all t (released r).window.bare
 
 -- nothing is held back after it
+abbrev pub all_released : Reader → Reader
+all_released r = record r { attribute = Outside; window = record { bare = []; raw = [] } }
+
 abbrev pub turned : Bool → Reader → Reader
-turned in_block r =
-    record (if in_block then r else record (released r) { bare = [] }) { sight = sight_start }
+turned in_block r = record (if in_block then r else all_released r) { sight = sight_start }
 
 -- after any other token
 abbrev pub read_on : Bool → Reader → WideToken → Reader
@@ -149,7 +156,7 @@ taken_after text r t token =
 -- after the end of the code
 abbrev pub taken_at_end : Reader → Taken → Taken
 taken_at_end r t =
-    if are_in_block t.pass.levels then t else take_all t (released r).bare
+    if are_in_block t.pass.levels then t else take_all t (released r).window.bare
 
 -- how many parentheses of an attribute are open
 abbrev pub most_left_out : Reader → ℕ

@@ -1,17 +1,19 @@
 -- What a `{` would open inside a block, where nothing else is asked of the tokens. Attributes are
 -- left out without holding tokens back.
-use Rattle.std.specs.Prelude.{ℕ, zero, suc, Bool, true, false, ◌&&◌, ◌==◌, List, [], ◌∷◌, Option}
-use Rattle.std.specs.Prelude.{None, Some, if◌then◌else◌}
-use Rattle.std.specs.Option.{is_none}
+use Rattle.std.specs.Prelude.{ℕ, zero, suc, Bool, true, false, ◌&&◌, not, ◌==◌, List, [], ◌∷◌}
+use Rattle.std.specs.Prelude.{Option, None, Some, if◌then◌else◌}
 use Rattle.cb_scan.specs.declared.lex.token.Role.{Role}
 use Rattle.cb_scan.specs.declared.lex.token.Role.TheVariants as role
 use Rattle.cb_scan.specs.declared.lex.token.WordKind.{WordKind}
 use Rattle.cb_scan.specs.declared.lex.token.WordKind.TheVariants as kind
 use Rattle.cb_scan.specs.declared.rules.wide.opening.Opening.{Opening}
+use Rattle.cb_scan.specs.declared.rules.wide.sight.Early.{Early}
+use Rattle.cb_scan.specs.declared.rules.wide.sight.Early.TheVariants as early
 use Rattle.cb_scan.specs.declared.rules.wide.sight.Phase.{Phase}
 use Rattle.cb_scan.specs.declared.rules.wide.sight.Phase.TheVariants.{Clear, Word, Paren, Inside}
 use Rattle.cb_scan.specs.declared.rules.wide.sight.Sight.{Sight}
 use Rattle.cb_scan.specs.declared.rules.wide.token.WideToken.{WideToken}
+use Rattle.cb_scan.specs.lex.Tokens.{is_mark}
 use Rattle.cb_scan.specs.rules.wide.Words.{attribute_words, is_among, is_attribute_word, is_literal}
 use Rattle.cb_scan.specs.rules.wide.Words.{is_sign, is_wide_word}
 use Rattle.cb_scan.specs.steps.wide.Openings.{next_opening}
@@ -66,40 +68,63 @@ look_in (Inside n) s x = look_inside n s x
 abbrev pub look : Sight → WideToken → Sight
 look s x = look_in s.phase s x
 
--- nothing is to open, and no attribute has begun
-abbrev pub is_early : Phase → Bool
-is_early (Inside n) = false
-is_early _ = true
+-- where nothing is to open
+abbrev pub idle_in : Phase → Sight
+idle_in p = record { phase = p; before = None; opening = None }
 
-abbrev pub is_idle : Sight → Bool
-is_idle s = is_none s.opening && (is_none s.before && is_early s.phase)
+-- a sight that is kept in one byte, or else as it is
+abbrev pub phase_of : Early → Option Phase
+phase_of early.Clear = Some Clear
+phase_of early.Word = Some (Word false)
+phase_of early.Attribute = Some (Word true)
+phase_of early.Paren = Some Paren
+phase_of early.Late = None
 
--- the phase after a word that begins no body
-abbrev pub phase_past_word : WordKind → List ℕ → Option Phase
-phase_past_word kind.Struct bytes = None
-phase_past_word kind.Union bytes = None
-phase_past_word kind.Enum bytes = None
-phase_past_word kind.Reserved bytes = Some (Word (is_among attribute_words bytes))
-phase_past_word _ bytes = Some (Word false)
+abbrev pub idle_or : Option Phase → Sight → Sight
+idle_or (Some p) s = idle_in p
+idle_or None s = s
 
--- the phase after a `(`, where no attribute has begun
-abbrev pub phase_past_paren : Phase → Option Phase
-phase_past_paren (Word attribute) = Some (paren_after attribute)
-phase_past_paren (Inside n) = None
-phase_past_paren _ = Some Clear
+abbrev pub sight_by : Early → Sight → Sight
+sight_by e s = idle_or (phase_of e) s
 
--- the phase after a string, a number or a character constant, where it is of no attribute
-abbrev pub phase_past_other : Phase → Option Phase
-phase_past_other Clear = Some Clear
-phase_past_other (Word attribute) = Some Clear
-phase_past_other _ = None
+-- something is to open, or an attribute has begun
+abbrev pub is_late : Early → Bool
+is_late early.Late = true
+is_late _ = false
 
--- the phase after a token with these bytes, if that is all that it changes where nothing is to open
-abbrev pub phase_past : Phase → Role → List ℕ → Option Phase
-phase_past p (role.Word kind) bytes = phase_past_word kind bytes
-phase_past p (role.Mark b) bytes = if b == open_paren then phase_past_paren p else Some Clear
-phase_past p role.Str bytes = phase_past_other p
-phase_past p role.Other bytes = phase_past_other p
+-- after a word
+abbrev pub early_past_word : WordKind → List ℕ → Early
+early_past_word kind.Struct bytes = early.Late
+early_past_word kind.Union bytes = early.Late
+early_past_word kind.Enum bytes = early.Late
+early_past_word kind.Reserved bytes =
+    if is_among attribute_words bytes then early.Attribute else early.Word
+early_past_word _ bytes = early.Word
+
+-- after a `(`
+abbrev pub early_past_paren : Early → Early
+early_past_paren early.Word = early.Paren
+early_past_paren early.Attribute = early.Late
+early_past_paren early.Late = early.Late
+early_past_paren _ = early.Clear
+
+-- after a string, a number or a character constant
+abbrev pub early_past_other : Early → Early
+early_past_other early.Paren = early.Late
+early_past_other early.Late = early.Late
+early_past_other _ = early.Clear
+
+-- after a token with these bytes, where it was not late before: not late if one byte tells all
+abbrev pub early_past : Early → Role → List ℕ → Early
+early_past e (role.Word kind) bytes = early_past_word kind bytes
+early_past e (role.Mark b) bytes = if b == open_paren then early_past_paren e else early.Clear
+early_past e role.Str bytes = early_past_other e
+early_past e role.Other bytes = early_past_other e
+
+-- a token of an attribute that goes on after it
+abbrev pub is_passed : Phase → Role → Bool
+is_passed (Inside n) r = not (is_mark open_paren r) && not (is_mark close_paren r)
+is_passed _ r = false
 
 -- after some tokens
 unfoldable pub look_along : Sight → List WideToken → Sight

@@ -83,6 +83,18 @@ impl Levels {
         Ok(())
     }
 
+    /// After a `{` that makes a block. Most are in a block.
+    #[inline(always)]
+    pub(crate) fn open_block(&mut self) -> Result<(), AllocError>
+        ensures { IfOk result (λ _. self.new ≡ Level.Block ∷ self.old) }
+    {
+        if self.in_block {
+            self.around.push(Level::Block)?;
+            return Ok(());
+        }
+        self.open(Level::Block)
+    }
+
     /// Without the innermost level, which mostly is a block inside a block.
     #[inline(always)]
     pub(crate) fn leave(&mut self)

@@ -108,7 +108,7 @@ impl Pass {
         requires { self.old.machine.depth + 1 < 2 ^ 32 }
         ensures { IfOk result (λ _. self.new ≡ entered self.old) }
     {
-        self.levels.open(Level::Block)?;
+        self.levels.open_block()?;
         self.machine.depth += 1;
         self.opening = None;
         Ok(())
@@ -231,7 +231,7 @@ impl Pass {
     {
         if self.opening.is_none() {
             self.levels.add(ahead, item);
-            return self.levels.open(Level::Block);
+            return self.levels.open_block();
         }
         let level = opened(self.opening, self.levels.tag_inside());
         self.levels.add(ahead, item);

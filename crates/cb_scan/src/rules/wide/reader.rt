@@ -25,14 +25,13 @@ use crate::rules::wide::window::Window;
 use std::alloc::AllocError;
 
 /// What is directly before the next token, how far an attribute has come, what a `{` would open
-/// inside a block, the tokens that may be of an attribute, and those that are of none.
+/// inside a block, and the tokens that are held back.
 #[derive(Drop)]
 pub(crate) struct Reader {
     before: Before,
     attribute: Attribute,
     sight: Watch,
-    raw: Window,
-    bare: Window,
+    window: Window,
 }
 
 /// A `;` or a brace.
@@ -68,60 +67,56 @@ impl Reader {
             before: Before::Anything,
             attribute: Attribute::Outside,
             sight: Watch::new(),
-            raw: Window::new(),
-            bare: Window::new(),
+            window: Window::new(),
         }
     }
 
     /// Leaves the first token out, or keeps it.
     #[inline(always)]
     fn settle(&mut self)
-        requires some { 1 ≤ length self.old.raw }
-        requires room { length self.old.bare < 32 }
+        requires some { 1 ≤ length self.old.window.raw }
         requires small { open_count self.old.attribute + 1 < 2 ^ 32 }
         ensures value { self.new ≡ settled self.old }
         ensures small { open_count self.new.attribute ≤ open_count self.old.attribute + 1 }
-        ensures fewer { length self.new.raw + 1 ≡ length self.old.raw }
-        ensures more { length self.new.bare ≤ length self.old.bare + 1 }
+        ensures fewer { length self.new.window.raw + 1 ≡ length self.old.window.raw }
+        ensures more { length self.new.window.bare ≤ length self.old.window.bare + 1 }
     {
-        let ahead = self.raw.ahead();
-        let (attribute, is_left_out) = self.attribute.step(ahead);
-        if !is_left_out {
-            if let [first, ..] = ahead {
-                self.bare.push(*first);
-            }
-        }
+        let (attribute, is_left_out) = self.attribute.step(self.window.raw());
         self.attribute = attribute;
-        self.raw.pop();
+        if is_left_out {
+            self.window.leave_out();
+        } else {
+            self.window.keep();
+        }
     }
 
     /// One more token.
     #[inline(always)]
-    fn hold(&mut self, item: &WideToken)
-        requires raw { length self.old.raw ≤ 2 }
-        requires bare { length self.old.bare ≤ 4 }
+    fn hold(&mut self, item: WideToken)
+        requires raw { length self.old.window.raw ≤ 2 }
+        requires bare { length self.old.window.bare ≤ 4 }
         requires small { open_count self.old.attribute + 1 < 2 ^ 32 }
-        ensures value { self.new ≡ held self.old item.now }
+        ensures value { self.new ≡ held self.old item }
         ensures small { open_count self.new.attribute ≤ open_count self.old.attribute + 1 }
-        ensures raw { length self.new.raw ≤ 2 }
-        ensures bare { length self.new.bare ≤ 5 }
+        ensures raw { length self.new.window.raw ≤ 2 }
+        ensures bare { length self.new.window.bare ≤ 5 }
         ensures more { held_len self.new ≤ held_len self.old + 1 }
     {
-        self.raw.push(item.copied());
-        if self.raw.ahead().len() == 3 {
+        self.window.push(item);
+        if self.window.raw().len() == 3 {
             self.settle();
         }
     }
 
     /// Leaves out or keeps all of them, where nothing that is to come is seen from them.
     fn release(&mut self)
-        requires raw { length self.old.raw ≤ 2 }
-        requires bare { length self.old.bare ≤ 4 }
+        requires raw { length self.old.window.raw ≤ 2 }
+        requires bare { length self.old.window.bare ≤ 4 }
         requires small { open_count self.old.attribute + 2 < 2 ^ 32 }
         ensures value { self.new ≡ released self.old }
-        ensures more { length self.new.bare ≤ held_len self.old }
+        ensures more { length self.new.window.bare ≤ held_len self.old }
     {
-        'settled: while !self.raw.ahead().is_empty() {
+        'settled: while !self.window.raw().is_empty() {
             self.settle();
         }
         self.attribute = Attribute::Outside;
@@ -129,35 +124,38 @@ impl Reader {
 
     /// Takes all that are of no attribute.
     fn take_bare(&mut self, pass: &mut Joint, found: &mut Found) -> Result<(), AllocError>
-        requires { most_in pass.old + length self.old.bare < 2 ^ 32 }
-        ensures reader { IfOk result (λ _. self.new ≡ record self.old { bare = [] }) }
+        requires { most_in pass.old + length self.old.window.bare < 2 ^ 32 }
+        ensures reader { IfOk result (λ _. self.new
+            ≡ record self.old { window = record self.old.window { bare = [] } }) }
         ensures taken { IfOk result
             (λ _. the_taken pass.new found.new
-            ≡ take_all (the_taken pass.old found.old) self.old.bare) }
-        ensures small { IfOk result (λ _. most_in pass.new ≤ most_in pass.old + length self.old.bare) }
+            ≡ take_all (the_taken pass.old found.old) self.old.window.bare) }
+        ensures small { IfOk result
+            (λ _. most_in pass.new ≤ most_in pass.old + length self.old.window.bare) }
     {
-        'taken: while let [item, ..] = self.bare.ahead() {
-            pass.take(found, self.bare.ahead(), item)?;
-            self.bare.pop();
+        'taken: while let [item, ..] = self.window.bare() {
+            pass.take(found, self.window.bare(), item)?;
+            self.window.pop();
         }
         Ok(())
     }
 
     /// Takes the first of them.
     fn take_first(&mut self, pass: &mut Joint, found: &mut Found) -> Result<(), AllocError>
-        requires some { 1 ≤ length self.old.bare }
+        requires some { 1 ≤ length self.old.window.bare }
         requires small { most_in pass.old + 1 < 2 ^ 32 }
-        ensures reader { IfOk result
-            (λ _. self.new ≡ record self.old { bare = drop 1 self.old.bare }) }
+        ensures reader { IfOk result (λ _. self.new ≡ record self.old {
+          window = record self.old.window { bare = drop 1 self.old.window.bare };
+        }) }
         ensures taken { IfOk result
             (λ _. the_taken pass.new found.new
-            ≡ first_taken (the_taken pass.old found.old) self.old.bare) }
+            ≡ first_taken (the_taken pass.old found.old) self.old.window.bare) }
         ensures small { IfOk result (λ _. most_in pass.new ≤ most_in pass.old + 1) }
     {
-        if let [item, ..] = self.bare.ahead() {
-            pass.take(found, self.bare.ahead(), item)?;
+        if let [item, ..] = self.window.bare() {
+            pass.take(found, self.window.bare(), item)?;
         }
-        self.bare.pop();
+        self.window.pop();
         Ok(())
     }
 
@@ -167,26 +165,26 @@ impl Reader {
         &mut self,
         pass: &mut Joint,
         found: &mut Found,
-        item: &WideToken,
+        item: WideToken,
     ) -> Result<(), AllocError>
-        requires raw { length self.old.raw ≤ 2 }
-        requires bare { length self.old.bare ≤ 4 }
+        requires raw { length self.old.window.raw ≤ 2 }
+        requires bare { length self.old.window.bare ≤ 4 }
         requires small { most_in pass.old + held_len self.old + 1 < 2 ^ 32 }
         requires left_out { open_count self.old.attribute + 1 < 2 ^ 32 }
-        ensures reader { IfOk result (λ _. self.new ≡ emptied (held self.old item.now)) }
+        ensures reader { IfOk result (λ _. self.new ≡ emptied (held self.old item)) }
         ensures taken { IfOk result
             (λ _. the_taken pass.new found.new
-            ≡ taken_if_full (held self.old item.now) (the_taken pass.old found.old)) }
+            ≡ taken_if_full (held self.old item) (the_taken pass.old found.old)) }
         ensures small { IfOk result
             (λ _. most_in pass.new + held_len self.new
             ≤ most_in pass.old + held_len self.old + 1) }
         ensures left_out { IfOk result
             (λ _. open_count self.new.attribute ≤ open_count self.old.attribute + 1) }
-        ensures raw { IfOk result (λ _. length self.new.raw ≤ 2) }
-        ensures bare { IfOk result (λ _. length self.new.bare ≤ 4) }
+        ensures raw { IfOk result (λ _. length self.new.window.raw ≤ 2) }
+        ensures bare { IfOk result (λ _. length self.new.window.bare ≤ 4) }
     {
         self.hold(item);
-        if self.bare.ahead().len() == 5 {
+        if self.window.bare().len() == 5 {
             self.take_first(pass, found)?;
         }
         Ok(())
@@ -200,8 +198,8 @@ impl Reader {
         in_block: bool,
         item: &WideToken,
     ) -> Result<(), AllocError>
-        requires raw { length self.old.raw ≤ 2 }
-        requires bare { length self.old.bare ≤ 4 }
+        requires raw { length self.old.window.raw ≤ 2 }
+        requires bare { length self.old.window.bare ≤ 4 }
         requires small { most_in pass.old + held_len self.old + 1 < 2 ^ 32 }
         requires left_out { open_count self.old.attribute + 2 < 2 ^ 32 }
         ensures reader { IfOk result (λ _. self.new ≡ turned in_block self.old) }
@@ -214,8 +212,8 @@ impl Reader {
             ≤ most_in pass.old + held_len self.old + 1) }
         ensures left_out { IfOk result
             (λ _. open_count self.new.attribute ≤ open_count self.old.attribute) }
-        ensures raw { IfOk result (λ _. length self.new.raw ≤ 2) }
-        ensures bare { IfOk result (λ _. length self.new.bare ≤ 4) }
+        ensures raw { IfOk result (λ _. length self.new.window.raw ≤ 2) }
+        ensures bare { IfOk result (λ _. length self.new.window.bare ≤ 4) }
     {
         if in_block {
             pass.open(self.sight.opening());
@@ -225,7 +223,7 @@ impl Reader {
         }
         let ahead = [*item];
         pass.take(found, &ahead, item)?;
-        self.sight = Watch::new();
+        self.sight.restart();
         Ok(())
     }
 
@@ -236,61 +234,29 @@ impl Reader {
         pass: &mut Joint,
         found: &mut Found,
         in_block: bool,
-        item: &WideToken,
+        item: WideToken,
     ) -> Result<(), AllocError>
-        requires raw { length self.old.raw ≤ 2 }
-        requires bare { length self.old.bare ≤ 4 }
+        requires raw { length self.old.window.raw ≤ 2 }
+        requires bare { length self.old.window.bare ≤ 4 }
         requires small { most_in pass.old + held_len self.old + 1 < 2 ^ 32 }
         requires left_out { most_left_out self.old + 1 < 2 ^ 32 }
-        ensures reader { IfOk result (λ _. self.new ≡ read_on in_block self.old item.now) }
+        ensures reader { IfOk result (λ _. self.new ≡ read_on in_block self.old item) }
         ensures taken { IfOk result
             (λ _. the_taken pass.new found.new
-            ≡ taken_on in_block self.old (the_taken pass.old found.old) item.now) }
+            ≡ taken_on in_block self.old (the_taken pass.old found.old) item) }
         ensures small { IfOk result
             (λ _. most_in pass.new + held_len self.new
             ≤ most_in pass.old + held_len self.old + 1) }
         ensures left_out { IfOk result
             (λ _. most_left_out self.new ≤ most_left_out self.old + 1) }
-        ensures raw { IfOk result (λ _. length self.new.raw ≤ 2) }
-        ensures bare { IfOk result (λ _. length self.new.bare ≤ 4) }
+        ensures raw { IfOk result (λ _. length self.new.window.raw ≤ 2) }
+        ensures bare { IfOk result (λ _. length self.new.window.bare ≤ 4) }
     {
         if in_block {
-            self.sight.look(item);
+            self.sight.look(&item);
             Ok(())
         } else {
             self.read(pass, found, item)
-        }
-    }
-
-    /// A token, as the pass reads it.
-    #[inline(always)]
-    fn next(
-        &mut self,
-        pass: &mut Joint,
-        found: &mut Found,
-        in_block: bool,
-        item: &WideToken,
-    ) -> Result<(), AllocError>
-        requires raw { length self.old.raw ≤ 2 }
-        requires bare { length self.old.bare ≤ 4 }
-        requires small { most_in pass.old + held_len self.old + 1 < 2 ^ 32 }
-        requires left_out { most_left_out self.old + 2 < 2 ^ 32 }
-        ensures reader { IfOk result (λ _. self.new ≡ read_next in_block self.old item.now) }
-        ensures taken { IfOk result
-            (λ _. the_taken pass.new found.new
-            ≡ taken_next in_block self.old (the_taken pass.old found.old) item.now) }
-        ensures small { IfOk result
-            (λ _. most_in pass.new + held_len self.new
-            ≤ most_in pass.old + held_len self.old + 1) }
-        ensures left_out { IfOk result
-            (λ _. most_left_out self.new ≤ most_left_out self.old + 1) }
-        ensures raw { IfOk result (λ _. length self.new.raw ≤ 2) }
-        ensures bare { IfOk result (λ _. length self.new.bare ≤ 4) }
-    {
-        if ends_attribute(item.role) {
-            self.turn(pass, found, in_block, item)
-        } else {
-            self.go_on(pass, found, in_block, item)
         }
     }
 
@@ -307,8 +273,8 @@ impl Reader {
     ) -> Result<(), AllocError>
         requires order { token.now.span.start ≤ token.now.span.end }
         requires end { token.now.span.end ≤ length text.now }
-        requires raw { length self.old.raw ≤ 2 }
-        requires bare { length self.old.bare ≤ 4 }
+        requires raw { length self.old.window.raw ≤ 2 }
+        requires bare { length self.old.window.bare ≤ 4 }
         requires small { most_in pass.old + held_len self.old + 1 < 2 ^ 32 }
         requires left_out { most_left_out self.old + 2 < 2 ^ 32 }
         ensures reader { IfOk result (λ _. self.new
@@ -322,12 +288,16 @@ impl Reader {
             ≤ most_in pass.old + held_len self.old + 1) }
         ensures left_out { IfOk result
             (λ _. most_left_out self.new ≤ most_left_out self.old + 1) }
-        ensures raw { IfOk result (λ _. length self.new.raw ≤ 2) }
-        ensures bare { IfOk result (λ _. length self.new.bare ≤ 4) }
+        ensures raw { IfOk result (λ _. length self.new.window.raw ≤ 2) }
+        ensures bare { IfOk result (λ _. length self.new.window.bare ≤ 4) }
     {
         let role = wide_role(text, token);
-        let item = token_as(role, before, token);
-        self.next(pass, found, in_block, &item)
+        if ends_attribute(role) {
+            let item = token_as(role, before, token);
+            self.turn(pass, found, in_block, &item)
+        } else {
+            self.go_on(pass, found, in_block, token_as(role, before, token))
+        }
     }
 
     /// A token of the code.
@@ -340,8 +310,8 @@ impl Reader {
     ) -> Result<(), AllocError>
         requires order { token.now.span.start ≤ token.now.span.end }
         requires end { token.now.span.end ≤ length text.now }
-        requires raw { length self.old.raw ≤ 2 }
-        requires bare { length self.old.bare ≤ 4 }
+        requires raw { length self.old.window.raw ≤ 2 }
+        requires bare { length self.old.window.bare ≤ 4 }
         requires small { most_in pass.old + held_len self.old + 1 < 2 ^ 32 }
         requires left_out { most_left_out self.old + 2 < 2 ^ 32 }
         ensures reader { IfOk result (λ _. self.new
@@ -354,8 +324,8 @@ impl Reader {
             ≤ most_in pass.old + held_len self.old + 1) }
         ensures left_out { IfOk result
             (λ _. most_left_out self.new ≤ most_left_out self.old + 1) }
-        ensures raw { IfOk result (λ _. length self.new.raw ≤ 2) }
-        ensures bare { IfOk result (λ _. length self.new.bare ≤ 4) }
+        ensures raw { IfOk result (λ _. length self.new.window.raw ≤ 2) }
+        ensures bare { IfOk result (λ _. length self.new.window.bare ≤ 4) }
     {
         let before = self.before;
         let in_block = pass.are_in_block();
@@ -366,17 +336,17 @@ impl Reader {
         }
         if in_block && token.is_mark(b';') && !pass.is_in_file() {
             pass.open(None);
-            self.sight = Watch::new();
+            self.sight.restart();
             return Ok(());
         }
         if in_block && opens_block(before, &self.sight, token) && !pass.is_in_file() {
             pass.enter()?;
-            self.sight = Watch::new();
+            self.sight.restart();
             return Ok(());
         }
         if in_block && closes_block(token) && pass.is_nested() {
             pass.leave();
-            self.sight = Watch::new();
+            self.sight.restart();
             return Ok(());
         }
         self.read_after(pass, found, text, before, in_block, token)
@@ -384,8 +354,8 @@ impl Reader {
 
     /// The end of the code.
     pub(crate) fn finish(&mut self, pass: &mut Joint, found: &mut Found) -> Result<(), AllocError>
-        requires raw { length self.old.raw ≤ 2 }
-        requires bare { length self.old.bare ≤ 4 }
+        requires raw { length self.old.window.raw ≤ 2 }
+        requires bare { length self.old.window.bare ≤ 4 }
         requires small { most_in pass.old + held_len self.old + 1 < 2 ^ 32 }
         requires left_out { most_left_out self.old + 2 < 2 ^ 32 }
         ensures { IfOk result

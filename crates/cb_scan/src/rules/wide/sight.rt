@@ -3,11 +3,11 @@
 ghost use Rattle.std.specs.Prelude.{◌≡◌, ◌+◌, ◌<◌, ◌≤◌, ◌^◌, length};
 ghost use Rattle.cb_scan.specs.lex.Tokens.{bytes_of};
 ghost use Rattle.cb_scan.specs.steps.wide.Tokens.{token_after};
-ghost use Rattle.cb_scan.specs.steps.wide.Sights.{is_early, is_idle, look, look_inside};
-ghost use Rattle.cb_scan.specs.steps.wide.Sights.{open_in_phase};
-ghost use Rattle.cb_scan.specs.steps.wide.Sights.{phase_after, phase_past, phase_past_other};
-ghost use Rattle.cb_scan.specs.steps.wide.Sights.{phase_past_paren, phase_past_word, seen_after};
-ghost use Rattle.cb_scan.specs.steps.wide.Sights.{sight_opening, sight_start};
+ghost use Rattle.cb_scan.specs.steps.wide.Sights.{early_past, early_past_other, early_past_paren};
+ghost use Rattle.cb_scan.specs.steps.wide.Sights.{early_past_word, is_late, is_passed, look};
+ghost use Rattle.cb_scan.specs.steps.wide.Sights.{look_inside, open_in_phase, phase_after, seen_after};
+ghost use Rattle.cb_scan.specs.steps.wide.Sights.{idle_in, phase_of, sight_by, sight_opening};
+ghost use Rattle.cb_scan.specs.steps.wide.Sights.{sight_start};
 
 use crate::lex::token::{Role, Token, WordKind};
 use crate::rules::functions::Before;
@@ -32,7 +32,7 @@ pub(crate) enum Phase {
 /// would open now.
 #[derive(Clone, Copy)]
 pub(crate) struct Sight {
-    pub phase: Phase,
+    phase: Phase,
     before: Option<Opening>,
     opening: Option<Opening>,
 }
@@ -49,80 +49,98 @@ fn phase_after(item: &WideToken) -> Phase
     }
 }
 
-/// No attribute has begun.
-#[inline(always)]
-fn is_early(phase: Phase) -> bool
-    ensures { result ≡ is_early phase }
-{
-    !matches!(phase, Phase::Inside(_))
+/// A sight in one byte: where nothing is to open and no attribute has begun, how far one has come.
+#[derive(Clone, Copy)]
+enum Early {
+    Clear,
+    /// A word came that begins no attribute by itself.
+    Word,
+    /// A word came that begins one whatever follows its `(`.
+    Attribute,
+    /// Any other word and `(` came.
+    Paren,
+    /// Something is to open, or an attribute has begun.
+    Late,
 }
 
-/// The phase after a word that begins no body.
-fn phase_past_word(kind: WordKind, word: &[u8]) -> Option<Phase>
-    ensures { result ≡ phase_past_word kind word.now }
+impl Early {
+    #[inline(always)]
+    fn is_late(self) -> bool
+        ensures { result ≡ is_late self }
+    {
+        matches!(self, Early::Late)
+    }
+
+    /// The phase, if nothing is to open.
+    #[inline(always)]
+    fn phase(self) -> Option<Phase>
+        ensures { result ≡ phase_of self }
+    {
+        match self {
+            Early::Clear => Some(Phase::Clear),
+            Early::Word => Some(Phase::Word(false)),
+            Early::Attribute => Some(Phase::Word(true)),
+            Early::Paren => Some(Phase::Paren),
+            Early::Late => None,
+        }
+    }
+}
+
+/// After a word.
+fn early_past_word(kind: WordKind, word: &[u8]) -> Early
+    ensures { result ≡ early_past_word kind word.now }
 {
     match kind {
-        WordKind::Struct | WordKind::Union | WordKind::Enum => None,
-        WordKind::Reserved => Some(Phase::Word(is_attribute_word(word))),
-        _ => Some(Phase::Word(false)),
+        WordKind::Struct | WordKind::Union | WordKind::Enum => Early::Late,
+        WordKind::Reserved if is_attribute_word(word) => Early::Attribute,
+        _ => Early::Word,
     }
 }
 
-/// The phase after a `(`, where no attribute has begun.
+/// After a `(`.
 #[inline(always)]
-fn phase_past_paren(phase: Phase) -> Option<Phase>
-    ensures { result ≡ phase_past_paren phase }
+fn early_past_paren(early: Early) -> Early
+    ensures { result ≡ early_past_paren early }
 {
-    match phase {
-        Phase::Clear | Phase::Paren => Some(Phase::Clear),
-        Phase::Word(true) => Some(Phase::Inside(0)),
-        Phase::Word(false) => Some(Phase::Paren),
-        Phase::Inside(_) => None,
+    match early {
+        Early::Clear | Early::Paren => Early::Clear,
+        Early::Word => Early::Paren,
+        Early::Attribute | Early::Late => Early::Late,
     }
 }
 
-/// The phase after a string, a number or a character constant, where it is of no attribute.
+/// After a string, a number or a character constant.
 #[inline(always)]
-fn phase_past_other(phase: Phase) -> Option<Phase>
-    ensures { result ≡ phase_past_other phase }
+fn early_past_other(early: Early) -> Early
+    ensures { result ≡ early_past_other early }
 {
-    match phase {
-        Phase::Clear | Phase::Word(_) => Some(Phase::Clear),
-        Phase::Paren | Phase::Inside(_) => None,
+    match early {
+        Early::Clear | Early::Word | Early::Attribute => Early::Clear,
+        Early::Paren | Early::Late => Early::Late,
     }
 }
 
-/// The phase after a token of a text, if that is all that it changes where nothing is to open.
+/// After a token of a text, where it was not late before: not late if one byte tells all.
 #[inline(always)]
-fn phase_past(phase: Phase, text: &[u8], token: &Token) -> Option<Phase>
+fn early_past(early: Early, text: &[u8], token: &Token) -> Early
     requires order { token.now.span.start ≤ token.now.span.end }
     requires end { token.now.span.end ≤ length text.now }
-    ensures { result ≡ phase_past phase token.now.role (bytes_of text.now token.now.span) }
+    ensures { result ≡ early_past early token.now.role (bytes_of text.now token.now.span) }
 {
     match token.role {
-        Role::Word(kind) => phase_past_word(
+        Role::Word(kind) => early_past_word(
             kind,
             &text[token.span.start as usize..token.span.end as usize],
         ),
-        Role::Mark(b'(') => phase_past_paren(phase),
-        Role::Mark(_) => Some(Phase::Clear),
-        Role::Str | Role::Other => phase_past_other(phase),
+        Role::Mark(b'(') => early_past_paren(early),
+        Role::Mark(_) => Early::Clear,
+        Role::Str | Role::Other => early_past_other(early),
     }
 }
 
 impl Sight {
-    /// The beginning of a block.
-    fn new() -> Sight
-        ensures { result ≡ sight_start }
-    {
-        Sight {
-            phase: Phase::Clear,
-            before: None,
-            opening: None,
-        }
-    }
-
     /// What a `{` would open here.
+    #[inline(always)]
     fn opening(&self) -> Option<Opening>
         ensures { result ≡ sight_opening self.now }
     {
@@ -189,32 +207,46 @@ impl Sight {
         }
     }
 
-    /// Nothing is to open, and no attribute has begun.
+    /// Where nothing is to open.
     #[inline(always)]
-    fn is_idle(&self) -> bool
-        ensures { result ≡ is_idle self.now }
+    fn idle_in(phase: Phase) -> Sight
+        ensures { result ≡ idle_in phase }
     {
-        self.opening.is_none() && self.before.is_none() && is_early(self.phase)
+        Sight {
+            phase,
+            before: None,
+            opening: None,
+        }
+    }
+
+    /// The sight in one byte.
+    fn early(&self) -> Early
+        ensures { sight_by result self.now ≡ self.now }
+    {
+        match (&self.opening, &self.before, self.phase) {
+            (None, None, Phase::Clear) => Early::Clear,
+            (None, None, Phase::Word(false)) => Early::Word,
+            (None, None, Phase::Word(true)) => Early::Attribute,
+            (None, None, Phase::Paren) => Early::Paren,
+            _ => Early::Late,
+        }
     }
 }
 
-/// A sight, and whether it is idle, which is looked at for most tokens in blocks.
+/// A sight, in one byte where that can be: most tokens in blocks then write this byte alone.
 #[derive(Drop)]
 pub(crate) struct Watch {
+    early: Early,
     sight: Sight,
-    idle: bool,
 }
 
 impl Model for Watch {
-    ghost use Rattle.std.specs.Prelude.{◌≡◌};
     ghost use Rattle.cb_scan.specs.declared.rules.wide.sight.Sight.{Sight};
-    ghost use Rattle.cb_scan.specs.steps.wide.Sights.{is_idle};
+    ghost use Rattle.cb_scan.specs.steps.wide.Sights.{sight_by};
 
     ghost Value = { Sight };
 
-    ghost view = { λ w. w.sight };
-
-    ghost invariant = { λ w. w.idle ≡ is_idle w.sight };
+    ghost view = { λ w. sight_by w.early w.sight };
 }
 
 impl Watch {
@@ -223,16 +255,27 @@ impl Watch {
         ensures { result ≡ sight_start }
     {
         Watch {
-            sight: Sight::new(),
-            idle: true,
+            early: Early::Clear,
+            sight: Sight::idle_in(Phase::Clear),
         }
+    }
+
+    /// A block begins.
+    #[inline(always)]
+    pub(crate) fn restart(&mut self)
+        ensures { self.new ≡ sight_start }
+    {
+        self.early = Early::Clear;
     }
 
     /// What a `{` would open here.
     pub(crate) fn opening(&self) -> Option<Opening>
         ensures { result ≡ sight_opening self.now }
     {
-        self.sight.opening()
+        match self.early {
+            Early::Late => self.sight.opening(),
+            _ => None,
+        }
     }
 
     /// After a token.
@@ -242,12 +285,27 @@ impl Watch {
         ensures value { self.new ≡ look self.old item.now }
         ensures small { open_in_phase self.new.phase ≤ open_in_phase self.old.phase + 1 }
     {
+        if let Some(phase) = self.early.phase() {
+            self.sight = Sight::idle_in(phase);
+        }
         self.sight.look(item);
-        self.idle = self.sight.is_idle();
+        self.early = self.sight.early();
+    }
+
+    /// The token is of an attribute that goes on after it.
+    #[inline(always)]
+    fn passes(&self, token: &Token) -> bool
+        ensures { result ≡ is_passed self.now.phase token.now.role }
+    {
+        match (self.early, self.sight.phase) {
+            (Early::Late, Phase::Inside(_)) => !token.is_mark(b'(') && !token.is_mark(b')'),
+            _ => false,
+        }
     }
 
     /// After a token of a text, by what is directly before it. It stands apart, since what it makes
     /// of the token would else be cleared in memory for each token that says nothing.
+    #[inline(never)]
     fn look_after(&mut self, text: &[u8], before: Before, token: &Token)
         requires order { token.now.span.start ≤ token.now.span.end }
         requires end { token.now.span.end ≤ length text.now }
@@ -255,6 +313,9 @@ impl Watch {
         ensures value { self.new ≡ look self.old (token_after text.now before token.now) }
         ensures small { open_in_phase self.new.phase ≤ open_in_phase self.old.phase + 1 }
     {
+        if self.passes(token) {
+            return;
+        }
         let role = wide_role(text, token);
         self.look(&token_as(role, before, token));
     }
@@ -268,10 +329,10 @@ impl Watch {
         ensures value { self.new ≡ look self.old (token_after text.now before token.now) }
         ensures small { open_in_phase self.new.phase ≤ open_in_phase self.old.phase + 1 }
     {
-        if self.idle {
-            if let Some(phase) = phase_past(self.sight.phase, text, token) {
-                self.sight.phase = phase;
-                self.idle = is_early(phase);
+        if !self.early.is_late() {
+            let early = early_past(self.early, text, token);
+            if !early.is_late() {
+                self.early = early;
                 return;
             }
         }

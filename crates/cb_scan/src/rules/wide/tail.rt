@@ -131,7 +131,7 @@ impl Tail {
     {
         let trails = self.trails(item);
         let is_candidate = self.is_candidate(ahead);
-        if self.prototype.is_none() {
+        if self.typed && self.prototype.is_none() {
             if let Some(name) = self.prototype_at(ahead) {
                 self.prototype = Some(name);
             }

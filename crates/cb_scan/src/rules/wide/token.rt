@@ -14,20 +14,6 @@ pub(crate) struct WideToken {
     pub counted: bool,
 }
 
-impl WideToken {
-    /// The same token, number by number, for the reason that [`Token::copied`] has.
-    #[inline(always)]
-    pub(crate) fn copied(&self) -> WideToken
-        ensures { result ≡ self.now }
-    {
-        WideToken {
-            token: self.token.copied(),
-            role: self.role,
-            counted: self.counted,
-        }
-    }
-}
-
 /// A token of this role, which counts as a `{` by what is directly before it.
 #[inline(always)]
 pub(crate) fn token_as(role: WideRole, before: Before, token: &Token) -> WideToken

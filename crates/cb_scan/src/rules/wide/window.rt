@@ -1,5 +1,5 @@
 //! Tokens that are held back until those after them are known.
-ghost use Rattle.std.specs.Prelude.{◌≡◌, ◌<◌, ◌≤◌, List, [], ◌∷◌, ◌++◌, drop, length};
+ghost use Rattle.std.specs.Prelude.{◌≡◌, ◌+◌, ◌<◌, ◌≤◌, [], ◌∷◌, ◌++◌, drop, length, take};
 
 use crate::lex::piece::Span;
 use crate::lex::token::{Role, Token};
@@ -21,75 +21,102 @@ const NO_TOKEN: WideToken = WideToken {
     counted: false,
 };
 
-/// The tokens that are held back, from `start` to `end`.
+/// The tokens that are held back: from `start` to `raw` those that are of no attribute, and from
+/// there to `end` those of which it is not known.
 #[derive(Drop)]
 pub(crate) struct Window {
     items: [WideToken; ROOM],
     start: usize,
+    raw: usize,
     end: usize,
 }
 
 impl Model for Window {
-    ghost use Rattle.std.specs.Prelude.{◌-◌, ◌≤◌, List, drop, take};
-    ghost use Rattle.cb_scan.specs.declared.rules.wide.token.WideToken.{WideToken};
+    ghost use Rattle.std.specs.Prelude.{◌-◌, ◌≤◌, drop, take};
+    ghost use Rattle.cb_scan.specs.steps.wide.HeldBack.{HeldBack};
 
-    ghost Value = { List WideToken };
+    ghost Value = { HeldBack };
 
-    ghost view = { λ w. take (w.end - w.start) (drop w.start w.items) };
+    ghost view = { λ w. record {
+      bare = take (w.raw - w.start) (drop w.start w.items);
+      raw = take (w.end - w.raw) (drop w.raw w.items);
+    } };
 
-    ghost invariant = { λ w. (w.start ≤ w.end) × (w.end ≤ 32) };
+    ghost invariant = { λ w. (w.start ≤ w.raw) × (w.raw ≤ w.end) × (w.end ≤ 32) };
 }
 
 impl Window {
     pub(crate) fn new() -> Window
-        ensures { result ≡ [] }
+        ensures { result ≡ record { bare = []; raw = [] } }
     {
         Window {
             items: [NO_TOKEN; ROOM],
             start: 0,
+            raw: 0,
             end: 0,
         }
     }
 
-    /// The tokens, the next one first.
+    /// The tokens that are of no attribute, the next one first.
     #[inline(always)]
-    pub(crate) fn ahead(&self) -> &[WideToken]
-        ensures { result.now ≡ self.now }
+    pub(crate) fn bare(&self) -> &[WideToken]
+        ensures { result.now ≡ self.now.bare }
     {
-        &self.items[self.start..self.end]
+        &self.items[self.start..self.raw]
+    }
+
+    /// Those after them, of which it is not known.
+    #[inline(always)]
+    pub(crate) fn raw(&self) -> &[WideToken]
+        ensures { result.now ≡ self.now.raw }
+    {
+        &self.items[self.raw..self.end]
     }
 
     /// One more token, behind all others.
     #[inline(always)]
     pub(crate) fn push(&mut self, item: WideToken)
-        requires { length self.old < 32 }
-        ensures { self.new ≡ self.old ++ (item ∷ []) }
+        requires { length self.old.bare + length self.old.raw < 32 }
+        ensures { self.new ≡ record self.old { raw = self.old.raw ++ (item ∷ []) } }
     {
         if self.end == ROOM {
-            let (start, end) = (self.start, self.end);
+            let (start, raw, end) = (self.start, self.raw, self.end);
             self.items.copy_within(start..end, 0);
             self.start = 0;
+            self.raw = raw - start;
             self.end = end - start;
         }
         self.items[self.end] = item;
         self.end += 1;
     }
 
+    /// The first token of which it is not known is of no attribute.
+    #[inline(always)]
+    pub(crate) fn keep(&mut self)
+        requires { 1 ≤ length self.old.raw }
+        ensures { self.new
+            ≡ record { bare = self.old.bare ++ take 1 self.old.raw; raw = drop 1 self.old.raw } }
+    {
+        self.raw += 1;
+    }
+
+    /// It is of one, and is left out.
+    #[inline(never)]
+    pub(crate) fn leave_out(&mut self)
+        requires { 1 ≤ length self.old.raw }
+        ensures { self.new ≡ record self.old { raw = drop 1 self.old.raw } }
+    {
+        let (raw, end) = (self.raw, self.end);
+        self.items.copy_within(raw + 1..end, raw);
+        self.end = end - 1;
+    }
+
     /// Without the next token.
     #[inline(always)]
     pub(crate) fn pop(&mut self)
-        requires { 1 ≤ length self.old }
-        ensures { self.new ≡ drop 1 self.old }
+        requires { 1 ≤ length self.old.bare }
+        ensures { self.new ≡ record self.old { bare = drop 1 self.old.bare } }
     {
         self.start += 1;
-    }
-
-    /// Without all tokens.
-    #[inline(always)]
-    pub(crate) fn clear(&mut self)
-        ensures { self.new ≡ [] }
-    {
-        self.start = 0;
-        self.end = 0;
     }
 }

@@ -72,8 +72,8 @@ loop-lined-init c =
         ap length c.into_iter-lined-iterator.ensures.into_iter_gives,
         ap most_left_out reader,
       );
-      raw = omega (arith, ap (λ r. length r.raw) reader);
-      bare = omega (arith, ap (λ r. length r.bare) reader);
+      raw = omega (arith, ap (λ r. length r.window.raw) reader);
+      bare = omega (arith, ap (λ r. length r.window.bare) reader);
     }
 
 pub loop-lined-preserved-then-is_code : goal.loop-lined-preserved-then-is_code

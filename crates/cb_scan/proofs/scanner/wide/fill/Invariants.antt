@@ -42,6 +42,6 @@ invariant-loop-lined l = record {
   within : AllByRecursion (Within l.text) l.lined-iterator;
   room : most_in l.pass + held_len l.reader + length l.lined-iterator ≤ MOST_BYTES;
   left_out : most_left_out l.reader + length l.lined-iterator ≤ MOST_BYTES;
-  raw : length l.reader.raw ≤ 2;
-  bare : length l.reader.bare ≤ 4;
+  raw : length l.reader.window.raw ≤ 2;
+  bare : length l.reader.window.bare ≤ 4;
 }

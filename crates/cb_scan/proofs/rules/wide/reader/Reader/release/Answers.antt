@@ -12,10 +12,10 @@ settled-preserved c =
     let e = c.settle.ensures in
     let i = c.settled.invariant in
     let fewer = e.fewer in
-    let some : 1 ≤ length s.raw = omega arith in
+    let some : 1 ≤ length s.window.raw = omega arith in
     record {
-      kept = ap (λ r. r.bare ++ kept_from r.attribute r.raw) e.value
-          ∙ settled_keeps s.bare s.attribute s.raw some ∙ i.kept;
+      kept = ap (λ r. r.window.bare ++ kept_from r.attribute r.window.raw) e.value
+          ∙ settled_keeps s.window.bare s.attribute s.window.raw some ∙ i.kept;
       few = omega (arith, e.fewer, e.more, i.few);
       small = omega (arith, e.fewer, e.small, i.small);
       before = ap (λ r. r.before) e.value ∙ i.before;
@@ -26,10 +26,10 @@ pub returns-clause-value : goal.returns-clause-value
 returns-clause-value c =
     let s = c.settled.self in
     let i = c.settled.invariant in
-    let none : length s.raw ≡ 0 =
-    sym (ap length c.ahead.ensures)
-    ∙ eqb-true (length c.ahead.result.now) 0 (sym c.is_empty.ensures ∙ c.settled-test.false) in
-    let raw = empty s.raw none in
-    let bare = sym (none_kept s.bare s.attribute)
-    ∙ ap (λ l. s.bare ++ kept_from s.attribute l) (sym raw) ∙ i.kept in
-    (λ k. record { before = i.before k; attribute = Outside; sight = i.sight k; raw = raw k; bare = bare k })
+    let none : length s.window.raw ≡ 0 =
+    sym (ap length c.raw.ensures)
+    ∙ eqb-true (length c.raw.result.now) 0 (sym c.is_empty.ensures ∙ c.settled-test.false) in
+    let raw = empty s.window.raw none in
+    let bare = sym (none_kept s.window.bare s.attribute)
+    ∙ ap (λ l. s.window.bare ++ kept_from s.attribute l) (sym raw) ∙ i.kept in
+    (λ k. record { before = i.before k; attribute = Outside; sight = i.sight k; window = record { bare = bare k; raw = raw k } })

@@ -1,14 +1,19 @@
--- Where nothing is to open, only the phase changes.
+-- Where one byte tells all, it alone changes.
 use Rattle.std.proofs.Common.{◌∙◌, sym, ap}
+use Rattle.cb_scan.specs.declared.rules.wide.sight.Early.{Early}
 use Rattle.cb_scan.specs.declared.rules.wide.sight.Sight.{Sight}
-use Rattle.cb_scan.specs.steps.wide.Sights.{look}
+use Rattle.cb_scan.specs.steps.wide.Sights.{is_late, look, sight_by}
 use Rattle.cb_scan.specs.steps.wide.Tokens.{token_after}
 use Rattle.cb_scan.proofs.WideGlance.{glance_is}
 use Rattle.cb_scan.proofs.rules.wide.sight.Watch.glance.Goals as goal
 
-pub returns-in-Some-clause-value : goal.returns-in-Some-clause-value
-returns-in-Some-clause-value c =
-    let token = c.args.token.now in
-    glance_is c.args.text.now c.args.before c.self.inside.sight token c.in-Some.phase
-    (sym c.self.invariant ∙ c.if-self.true) (sym c.in-Some.ensures)
-    ∙ ap (λ (s : Sight). look s (token_after c.args.text.now c.args.before token)) c.self.view_is
+pub returns-then-not-is_late-2-clause-value : goal.returns-then-not-is_late-2-clause-value
+returns-then-not-is_late-2-clause-value c =
+    let s = c.self.inside.sight in
+    let is = c.early_past-early.ensures in
+    let late = ap is_late (sym is) ∙ sym c.is_late-then-not-is_late.ensures ∙ c.if-not-is_late-2.true in
+    ap (λ (e : Early). sight_by e s) is
+    ∙ glance_is c.args.text.now c.args.before s c.args.token.now c.self.inside.early
+    (sym c.is_late.ensures ∙ c.if-not-is_late.true) late
+    ∙ ap (λ (z : Sight). look z (token_after c.args.text.now c.args.before c.args.token.now))
+    c.self.view_is

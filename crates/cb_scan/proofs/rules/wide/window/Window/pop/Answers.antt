@@ -8,6 +8,8 @@ pub returns : goal.returns
 returns c =
     let w = c.self.inside in
     let some = c.requires in
-    let long = ap length c.self.view_is in
-    let less : w.start < w.end = omega (arith, length-take (w.end - w.start) (drop w.start w.items)) in
-    popped w.start w.end w.items less ∙ ap (drop 1) c.self.view_is
+    let long = ap (λ v. length v.bare) c.self.view_is in
+    let less : w.start < w.raw = omega (arith, length-take (w.raw - w.start) (drop w.start w.items)) in
+    let bare = popped w.start w.raw w.items less ∙ ap (λ v. drop 1 v.bare) c.self.view_is in
+    let raw = ap (λ v. v.raw) c.self.view_is in
+    (λ k. record { bare = bare k; raw = raw k })
