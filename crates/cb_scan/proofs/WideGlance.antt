@@ -31,7 +31,8 @@ use Rattle.cb_scan.specs.steps.wide.Pass.{Taken, take_first}
 use Rattle.cb_scan.specs.steps.wide.Reading.{all_taken, is_mark_of_blocks, item_of, passed, read_on}
 use Rattle.cb_scan.specs.steps.wide.Reading.{reader_after, taken_after, taken_on, turned}
 use Rattle.cb_scan.specs.steps.wide.Sights.{early_past, early_past_other, early_past_paren}
-use Rattle.cb_scan.specs.steps.wide.Sights.{early_past_word, idle_in, is_late, is_passed, look}
+use Rattle.cb_scan.specs.steps.wide.Sights.{early_past_role, early_past_word, idle_in, is_late}
+use Rattle.cb_scan.specs.steps.wide.Sights.{is_passed, look}
 use Rattle.cb_scan.specs.steps.wide.Sights.{look_in, paren_after, seen_after, sight_by, sight_closed}
 use Rattle.cb_scan.specs.steps.wide.Tokens.{token_after}
 use Rattle.cb_scan.proofs.WideSigns.{sign_of}
@@ -47,33 +48,28 @@ module _ (s : Sight) where
   still x z seen sign literal early.Clear e = seen
   still x z seen sign literal early.Word e =
       (λ i. if sign i then idle_in (paren_after false) else seen_after None x) ∙ seen
-  still x z seen sign literal early.Attribute e =
-      (λ i. if sign i then idle_in (paren_after true) else seen_after None x) ∙ seen
   still x z seen sign literal early.Paren e =
       (λ i. if literal i then idle_in (Inside 0) else seen_after None x) ∙ seen
   still x z seen sign literal early.Late e = absurd (true≢false e)
 
   -- a string, a number or a character constant, which may be of an attribute
   still_other : (x : WideToken) → seen_after None x ≡ idle_in Clear → is_sign 40 x.role ≡ false
-      → (e : Early) → is_late (early_past_other e) ≡ false
+      → (e : Early) → is_late e ≡ false → is_late (early_past_other e) ≡ false
       → look (sight_by e s) x ≡ sight_by (early_past_other e) s
-  still_other x seen sign early.Clear e = seen
-  still_other x seen sign early.Word e =
+  still_other x seen sign early.Clear soon e = seen
+  still_other x seen sign early.Word soon e =
       (λ i. if sign i then idle_in (paren_after false) else seen_after None x) ∙ seen
-  still_other x seen sign early.Attribute e =
-      (λ i. if sign i then idle_in (paren_after true) else seen_after None x) ∙ seen
-  still_other x seen sign early.Paren e = absurd (true≢false e)
-  still_other x seen sign early.Late e = absurd (true≢false e)
+  still_other x seen sign early.Paren soon e = absurd (true≢false e)
+  still_other x seen sign early.Late soon e = absurd (true≢false soon)
 
   -- a `(`
   still_open : (t : Token) (c : Bool) (b : ℕ) → (b == 40) ≡ true
-      → (e : Early) → is_late (early_past_paren e) ≡ false
+      → (e : Early) → is_late e ≡ false
       → look (sight_by e s) (in_role t c (wide.Mark b)) ≡ sight_by (early_past_paren e) s
   still_open t c b is early.Clear e = refl
   still_open t c b is early.Word e =
       (λ i. if is i then idle_in (paren_after false)
       else seen_after None (in_role t c (wide.Mark b)))
-  still_open t c b is early.Attribute e = absurd (true≢false e)
   still_open t c b is early.Paren e = refl
   still_open t c b is early.Late e = absurd (true≢false e)
 
@@ -90,16 +86,19 @@ module _ (s : Sight) (t : Token) (c : Bool) (a : Early) (soon : is_late a ≡ fa
         | false ↦ still s (in_role t c wide.Name) (idle_in (Word false)) refl refl refl a soon
       ]
 
-  reserved : (bytes : List ℕ) → Gives (reserved_role bytes)
-      (if is_among attribute_words bytes then early.Attribute else early.Word)
+  reserved : (bytes : List ℕ)
+      → is_late (if is_among attribute_words bytes then early.Late else early.Word) ≡ false
+      → Gives (reserved_role bytes)
+      (if is_among attribute_words bytes then early.Late else early.Word)
   unfolding Gives reserved_role
   reserved bytes = elim (is_among attribute_words bytes) as
-      (λ b. Gives (if b then wide.Attribute
+      (λ b. is_late (if b then early.Late else early.Word) ≡ false
+      → Gives (if b then wide.Attribute
       else (if is_among specifier_words bytes then wide.Specifier
       else (if is_among statement_words bytes then wide.Statement else wide.Reserved)))
-      (if b then early.Attribute else early.Word)) [
-        | true ↦ still s (in_role t c wide.Attribute) (idle_in (Word true)) refl refl refl a soon
-        | false ↦ elim (is_among specifier_words bytes) as
+      (if b then early.Late else early.Word)) [
+        | true ↦ λ e. absurd (true≢false e)
+        | false ↦ λ e. elim (is_among specifier_words bytes) as
             (λ b. Gives (if b then wide.Specifier
             else (if is_among statement_words bytes then wide.Statement else wide.Reserved))
             early.Word) [
@@ -130,36 +129,45 @@ module _ (s : Sight) (t : Token) (c : Bool) (a : Early) (soon : is_late a ≡ fa
   word kind.Struct bytes e = absurd (true≢false e)
   word kind.Union bytes e = absurd (true≢false e)
   word kind.Enum bytes e = absurd (true≢false e)
-  word kind.Reserved bytes e = reserved bytes
+  word kind.Reserved bytes e = reserved bytes e
 
-  past : (r : Role) (bytes : List ℕ) → is_late (early_past a r bytes) ≡ false
-      → Gives (role_from r bytes) (early_past a r bytes)
+  past : (r : Role) (bytes : List ℕ) → is_late (early_past_role a r bytes) ≡ false
+      → Gives (role_from r bytes) (early_past_role a r bytes)
   unfolding Gives
   past (role.Word k) bytes e = word k bytes e
   past (role.Mark b) bytes e =
       let z : Bool → Early = λ o. if o then early_past_paren a else early.Clear in
       ⊎_elim
-      (λ is. still_open s t c b is a (ap (λ o. is_late (z o)) (sym is) ∙ e)
-      ∙ ap (λ o. sight_by (z o) s) (sym is))
+      (λ is. still_open s t c b is a soon ∙ ap (λ o. sight_by (z o) s) (sym is))
       (λ isnt.
       still s (in_role t c (wide.Mark b)) (idle_in Clear) refl isnt refl a soon
       ∙ ap (λ o. sight_by (z o) s) (sym isnt))
       (cases_Bool (b == 40))
-  past role.Str bytes e = still_other s (in_role t c wide.Str) refl refl a e
+  past role.Str bytes e = still_other s (in_role t c wide.Str) refl refl a soon e
   past role.Other bytes e =
       elim (first_is (λ b. b == 39) bytes) as
       (λ b. Gives (if b then wide.Character else wide.Number) (early_past_other a)) [
-        | true ↦ still_other s (in_role t c wide.Character) refl refl a e
-        | false ↦ still_other s (in_role t c wide.Number) refl refl a e
+        | true ↦ still_other s (in_role t c wide.Character) refl refl a soon e
+        | false ↦ still_other s (in_role t c wide.Number) refl refl a soon e
       ]
 
+-- what is not late was not late before
+soon_if : (b : Bool) (z : Early) → is_late (if b then early.Late else z) ≡ false → b ≡ false
+soon_if true z e = absurd (true≢false e)
+soon_if false z e = refl
+
 pub glance_is : (text : List ℕ) (b : Before) (s : Sight) (t : Token) (e : Early)
-    → is_late e ≡ false → is_late (early_past e t.role (bytes_of text t.span)) ≡ false
+    → is_late (early_past e t.role (bytes_of text t.span)) ≡ false
     → sight_by (early_past e t.role (bytes_of text t.span)) s
     ≡ look (sight_by e s) (token_after text b t)
 unfolding Gives
-glance_is text b s t e soon late =
-    sym (past s t (token_after text b t).counted e soon t.role (bytes_of text t.span) late)
+glance_is text b s t e late =
+    let bytes = bytes_of text t.span in
+    let z = early_past_role e t.role bytes in
+    let soon = soon_if (is_late e) z late in
+    let is : early_past e t.role bytes ≡ z = (λ i. if soon i then early.Late else z) in
+    ap (λ (u : Early). sight_by u s) is
+    ∙ sym (past s t (token_after text b t).counted e soon t.role bytes (sym (ap is_late is) ∙ late))
 
 -- ---- a token of an attribute
 by_passed : (s : Sight) (x : WideToken) (r : Role) → is_sign 40 x.role ≡ is_mark 40 r

@@ -10,10 +10,7 @@ use Rattle.cb_scan.specs.declared.rules.wide.reader.Reader.{Reader}
 use Rattle.cb_scan.specs.declared.rules.wide.sight.Sight.{Sight}
 use Rattle.cb_scan.specs.declared.rules.wide.token.WideToken.{WideToken}
 use Rattle.cb_scan.specs.steps.wide.Attributes.{kept_from, leaves_out, next_attribute}
-use Rattle.cb_scan.specs.steps.wide.Reading.{held}
-use Rattle.cb_scan.specs.steps.wide.Reading.{emptied}
-use Rattle.cb_scan.specs.steps.wide.Reading.{settled}
-use Rattle.cb_scan.specs.steps.wide.Reading.{with_raw}
+use Rattle.cb_scan.specs.steps.wide.Reading.{emptied, held, settled, with_bare, with_raw}
 use Rattle.cb_scan.proofs.WideRuns.{leaves_by_three, next_by_three}
 use Rattle.cb_scan.proofs.WideSegments.{IsInner}
 use Rattle.cb_scan.proofs.WideTaken.{left_of}
@@ -38,7 +35,8 @@ pub record IsHeld (bare : List WideToken) (a : Attribute) (raw items : List Wide
   pub few_bare : length h.window.bare ≤ 5
   pub raw_inner : AllByRecursion IsInner h.window.raw
   pub bare_inner : AllByRecursion IsInner h.window.bare
-  pub kept : h.window.bare ++ kept_from h.attribute (h.window.raw ++ items) ≡ bare ++ kept_from a (raw ++ items)
+  pub kept : h.window.bare ++ kept_from h.attribute (h.window.raw ++ items)
+      ≡ bare ++ kept_from a (raw ++ items)
 
 module _ (before : Before) (sight : Sight) (a : Attribute) (bare : List WideToken) (x : WideToken)
     (items : List WideToken) (inner : IsInner x) (few : length bare ≤ 4)
@@ -89,10 +87,6 @@ pub held_before : (r : Reader) (x : WideToken) → (held r x).before ≡ r.befor
 held_before r x = elim (length (with_raw r x).window.raw == 3) as
     (λ b. (if b then settled (with_raw r x) else with_raw r x).before ≡ r.before)
     [ true ↦ refl | false ↦ refl ]
-
--- the reader with these tokens that are of no attribute
-abbrev pub with_bare : Reader → List WideToken → Reader
-with_bare r bare = record r { window = record r.window { bare = bare } }
 
 pub emptied_is : (r : Reader) → emptied r ≡ with_bare r (left_of r.window.bare)
 emptied_is r = elim (length r.window.bare == 5) as

@@ -24,14 +24,14 @@ use Rattle.cb_scan.specs.steps.wide.Pass.{take_first}
 use Rattle.cb_scan.specs.steps.wide.Reading.{held, item_of, passed, reader_after}
 use Rattle.cb_scan.specs.steps.wide.Reading.{taken_after, taken_at_end, all_taken, opened_by}
 use Rattle.cb_scan.specs.steps.wide.Reading.{read_next, read_on, reader_start, released}
-use Rattle.cb_scan.specs.steps.wide.Reading.{taken_next, taken_on, the_taken, turned}
+use Rattle.cb_scan.specs.steps.wide.Reading.{taken_next, taken_on, the_taken, turned, with_bare}
 use Rattle.cb_scan.specs.steps.wide.Sights.{look, look_along, opening_along, sight_opening}
 use Rattle.cb_scan.specs.steps.wide.Sights.{sight_start}
 use Rattle.cb_scan.specs.steps.wide.Tokens.{tokens_from}
 use Rattle.cb_scan.proofs.FunctionsRise.{all_implied}
 use Rattle.cb_scan.proofs.WideAttributes.{kept_from_start}
 use Rattle.cb_scan.proofs.WideBlocks.{IsDeep, IsRead, deep_next, in_block}
-use Rattle.cb_scan.proofs.WideHeld.{emptied_is, held_before, held_is, with_bare}
+use Rattle.cb_scan.proofs.WideHeld.{emptied_is, held_before, held_is}
 use Rattle.cb_scan.proofs.WideRuns.{kept_all, kept_run, run_is}
 use Rattle.cb_scan.proofs.WideSegments.{IsInner, ends_none}
 use Rattle.cb_scan.proofs.WideSights as sights
@@ -211,7 +211,8 @@ module _ (text : List ℕ) (Holds : Reader → Taken → List Token → List Wid
 
     -- outside of blocks
     outer_mark : (t : Taken) → IsOuter r t → ends_attribute item.role ≡ true
-        → Holds r t (token ∷ ts) (r.window.bare ++ kept_from r.attribute (r.window.raw ++ item ∷ rest))
+        → Holds r t (token ∷ ts)
+        (r.window.bare ++ kept_from r.attribute (r.window.raw ++ item ∷ rest))
     outer_mark t is ends =
         let s = kept_from r.attribute r.window.raw in
         let held_back = r.window.bare ++ s in
@@ -229,7 +230,8 @@ module _ (text : List ℕ) (Holds : Reader → Taken → List Token → List Wid
         (reader_is t false true is.state.outside ends) taken))
 
     outer_inner : (t : Taken) → IsOuter r t → ends_attribute item.role ≡ false
-        → Holds r t (token ∷ ts) (r.window.bare ++ kept_from r.attribute (r.window.raw ++ item ∷ rest))
+        → Holds r t (token ∷ ts)
+        (r.window.bare ++ kept_from r.attribute (r.window.raw ++ item ∷ rest))
     outer_inner t is isnt =
         let h = held before_next item in
         let facts = held_is (before_after r.before token) r.sight r.attribute r.window.bare item rest

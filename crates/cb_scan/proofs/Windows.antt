@@ -88,9 +88,9 @@ module _ {X : Type 0} where
       (λ k. held (none k) (end - start) (paste xs 0 (drop start xs) (last - start)))
       ∙ moved start start end last xs (omega arith) le after less
 
-  -- ---- one of them is left out, or goes on to the tokens before it
+  -- ---- one of them is left out, or joins the tokens before it
 
-  -- the tokens from one on without that one
+  -- the tokens in places from `first` to `end`, without the first of them
   module _ (first end : ℕ) (xs : List X) (less : first < end) (within : end ≤ length xs) where
     abbrev many : ℕ
     many = end - (first + 1)

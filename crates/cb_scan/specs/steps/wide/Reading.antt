@@ -20,7 +20,7 @@ use Rattle.cb_scan.specs.rules.wide.Attributes.{ends_attribute}
 use Rattle.cb_scan.specs.steps.Functions.{before_after, is_after_linkage}
 use Rattle.cb_scan.specs.steps.wide.Attributes.{kept_from, leaves_out, next_attribute, open_count}
 use Rattle.cb_scan.specs.steps.wide.Contents.{are_in_block}
-use Rattle.cb_scan.specs.steps.wide.HeldBack.{HeldBack}
+use Rattle.cb_scan.specs.steps.wide.HeldBack.{HeldBack, none_held}
 use Rattle.cb_scan.specs.steps.wide.Lists.{Lists}
 use Rattle.cb_scan.specs.steps.wide.Pass.{Taken, take_all, take_first}
 use Rattle.cb_scan.specs.steps.wide.Sights.{look, open_in_phase, sight_opening, sight_start}
@@ -38,7 +38,7 @@ reader_start = record {
   before = Anything;
   attribute = Outside;
   sight = sight_start;
-  window = record { bare = []; raw = [] };
+  window = none_held;
 }
 
 -- the first token, of which it is known whether it is of an attribute: it is left out or kept
@@ -68,13 +68,16 @@ released r = record r {
   window = record { bare = r.window.bare ++ kept_from r.attribute r.window.raw; raw = [] };
 }
 
+-- the reader with these, instead of its own, as the tokens that are of no attribute
+abbrev pub with_bare : Reader → List WideToken → Reader
+with_bare r bare = record r { window = record r.window { bare = bare } }
+
 -- five are enough to take the first
 abbrev pub is_full : Reader → Bool
 is_full r = length r.window.bare == 5
 
 abbrev pub emptied : Reader → Reader
-emptied r =
-    if is_full r then record r { window = record r.window { bare = drop 1 r.window.bare } } else r
+emptied r = if is_full r then with_bare r (drop 1 r.window.bare) else r
 
 -- the first of some tokens is taken
 abbrev pub first_taken : Taken → List WideToken → Taken
@@ -101,7 +104,7 @@ all_taken in_block r t =
 
 -- nothing is held back after it
 abbrev pub all_released : Reader → Reader
-all_released r = record r { attribute = Outside; window = record { bare = []; raw = [] } }
+all_released r = record r { attribute = Outside; window = none_held }
 
 abbrev pub turned : Bool → Reader → Reader
 turned in_block r = record (if in_block then r else all_released r) { sight = sight_start }

@@ -19,9 +19,13 @@ use Rattle.cb_scan.specs.rules.wide.Words.{is_sign, is_wide_word}
 use Rattle.cb_scan.specs.steps.wide.Openings.{next_opening}
 use Rattle.cb_scan.specs.Bytes.{close_paren, open_paren}
 
+-- where nothing is to open
+abbrev pub idle_in : Phase → Sight
+idle_in p = record { phase = p; before = None; opening = None }
+
 -- the beginning of a block
 abbrev pub sight_start : Sight
-sight_start = record { phase = Clear; before = None; opening = None }
+sight_start = idle_in Clear
 
 -- what a `{` would open here
 abbrev pub opening_in : Phase → Sight → Option Opening
@@ -68,15 +72,10 @@ look_in (Inside n) s x = look_inside n s x
 abbrev pub look : Sight → WideToken → Sight
 look s x = look_in s.phase s x
 
--- where nothing is to open
-abbrev pub idle_in : Phase → Sight
-idle_in p = record { phase = p; before = None; opening = None }
-
--- a sight that is kept in one byte, or else as it is
+-- the phase, if one byte is the whole sight
 abbrev pub phase_of : Early → Option Phase
 phase_of early.Clear = Some Clear
 phase_of early.Word = Some (Word false)
-phase_of early.Attribute = Some (Word true)
 phase_of early.Paren = Some Paren
 phase_of early.Late = None
 
@@ -84,44 +83,51 @@ abbrev pub idle_or : Option Phase → Sight → Sight
 idle_or (Some p) s = idle_in p
 idle_or None s = s
 
+-- a sight that is kept in one byte, or else as it is
 abbrev pub sight_by : Early → Sight → Sight
 sight_by e s = idle_or (phase_of e) s
 
--- something is to open, or an attribute has begun
+-- one byte is not the whole sight
 abbrev pub is_late : Early → Bool
 is_late early.Late = true
 is_late _ = false
 
--- after a word
+-- after a word, where it was not late before
 abbrev pub early_past_word : WordKind → List ℕ → Early
 early_past_word kind.Struct bytes = early.Late
 early_past_word kind.Union bytes = early.Late
 early_past_word kind.Enum bytes = early.Late
 early_past_word kind.Reserved bytes =
-    if is_among attribute_words bytes then early.Attribute else early.Word
+    if is_among attribute_words bytes then early.Late else early.Word
 early_past_word _ bytes = early.Word
 
--- after a `(`
+-- after a `(`, where it was not late before
 abbrev pub early_past_paren : Early → Early
 early_past_paren early.Word = early.Paren
-early_past_paren early.Attribute = early.Late
-early_past_paren early.Late = early.Late
 early_past_paren _ = early.Clear
 
--- after a string, a number or a character constant
+-- after a string, a number or a character constant, where it was not late before
 abbrev pub early_past_other : Early → Early
 early_past_other early.Paren = early.Late
-early_past_other early.Late = early.Late
 early_past_other _ = early.Clear
 
--- after a token with these bytes, where it was not late before: not late if one byte tells all
-abbrev pub early_past : Early → Role → List ℕ → Early
-early_past e (role.Word kind) bytes = early_past_word kind bytes
-early_past e (role.Mark b) bytes = if b == open_paren then early_past_paren e else early.Clear
-early_past e role.Str bytes = early_past_other e
-early_past e role.Other bytes = early_past_other e
+-- after a mark, where it was not late before
+abbrev pub early_past_mark : Early → ℕ → Early
+early_past_mark e b = if b == open_paren then early_past_paren e else early.Clear
 
--- a token of an attribute that goes on after it
+-- after a token with these bytes, where one byte was the whole sight before it: late where one byte
+-- may no longer do
+abbrev pub early_past_role : Early → Role → List ℕ → Early
+early_past_role e (role.Word kind) bytes = early_past_word kind bytes
+early_past_role e (role.Mark b) bytes = early_past_mark e b
+early_past_role e role.Str bytes = early_past_other e
+early_past_role e role.Other bytes = early_past_other e
+
+-- after a token with these bytes: late too where it was late before
+abbrev pub early_past : Early → Role → List ℕ → Early
+early_past e r bytes = if is_late e then early.Late else early_past_role e r bytes
+
+-- a token in an attribute, which is neither a `(` nor a `)`
 abbrev pub is_passed : Phase → Role → Bool
 is_passed (Inside n) r = not (is_mark open_paren r) && not (is_mark close_paren r)
 is_passed _ r = false

@@ -95,9 +95,9 @@ impl Levels {
         self.open(Level::Block)
     }
 
-    /// Without the innermost level, which mostly is a block inside a block.
-    #[inline(always)]
-    pub(crate) fn leave(&mut self)
+    /// Without the innermost level, whichever it is and whatever is around it.
+    #[inline(never)]
+    fn leave_any(&mut self)
         ensures { self.new ≡ drop 1 self.old }
     {
         match self.around.pop() {
@@ -109,6 +109,18 @@ impl Levels {
                 self.first = first;
                 self.in_block = false;
             }
+        }
+    }
+
+    /// Without the innermost level. Mostly that is a block inside a block: then no level is copied.
+    #[inline(always)]
+    pub(crate) fn leave(&mut self)
+        ensures { self.new ≡ drop 1 self.old }
+    {
+        if self.in_block && matches!(self.around.last(), Some(Level::Block)) {
+            self.around.pop();
+        } else {
+            self.leave_any();
         }
     }
 

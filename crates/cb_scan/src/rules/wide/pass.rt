@@ -25,7 +25,7 @@ use crate::lex::token::Role;
 use crate::rules::scope::Range;
 use crate::rules::wide::declaration::Declaration;
 use crate::rules::wide::found::Found;
-use crate::rules::wide::level::{Level, opened};
+use crate::rules::wide::level::opened;
 use crate::rules::wide::levels::Levels;
 use crate::rules::wide::machine::WideMachine;
 use crate::rules::wide::opening::{Opening, next_opening, opening_tag};

@@ -11,6 +11,7 @@ ghost use Rattle.cb_scan.specs.steps.wide.Reading.{most_left_out, opens_block, r
 ghost use Rattle.cb_scan.specs.steps.wide.Reading.{reader_after, reader_start, released, settled};
 ghost use Rattle.cb_scan.specs.steps.wide.Reading.{taken_after, taken_at_end, taken_if_full};
 ghost use Rattle.cb_scan.specs.steps.wide.Reading.{taken_next, taken_on, the_taken, turned};
+ghost use Rattle.cb_scan.specs.steps.wide.Reading.{with_bare};
 ghost use Rattle.cb_scan.specs.steps.wide.Tokens.{token_after};
 
 use crate::lex::token::{Role, Token};
@@ -125,8 +126,7 @@ impl Reader {
     /// Takes all that are of no attribute.
     fn take_bare(&mut self, pass: &mut Joint, found: &mut Found) -> Result<(), AllocError>
         requires { most_in pass.old + length self.old.window.bare < 2 ^ 32 }
-        ensures reader { IfOk result (λ _. self.new
-            ≡ record self.old { window = record self.old.window { bare = [] } }) }
+        ensures reader { IfOk result (λ _. self.new ≡ with_bare self.old []) }
         ensures taken { IfOk result
             (λ _. the_taken pass.new found.new
             ≡ take_all (the_taken pass.old found.old) self.old.window.bare) }
@@ -144,9 +144,8 @@ impl Reader {
     fn take_first(&mut self, pass: &mut Joint, found: &mut Found) -> Result<(), AllocError>
         requires some { 1 ≤ length self.old.window.bare }
         requires small { most_in pass.old + 1 < 2 ^ 32 }
-        ensures reader { IfOk result (λ _. self.new ≡ record self.old {
-          window = record self.old.window { bare = drop 1 self.old.window.bare };
-        }) }
+        ensures reader { IfOk result
+            (λ _. self.new ≡ with_bare self.old (drop 1 self.old.window.bare)) }
         ensures taken { IfOk result
             (λ _. the_taken pass.new found.new
             ≡ first_taken (the_taken pass.old found.old) self.old.window.bare) }
@@ -260,8 +259,8 @@ impl Reader {
         }
     }
 
-    /// A token of a text, by what is directly before it, as the pass reads it. It stands apart for
-    /// the reason that `Watch::look_after` has.
+    /// A token of a text, by what is directly before it, as the pass reads it. The token is made in
+    /// each branch by itself: so one that is held back can be made in its place, without a copy.
     fn read_after(
         &mut self,
         pass: &mut Joint,

@@ -3,10 +3,11 @@
 ghost use Rattle.std.specs.Prelude.{◌≡◌, ◌+◌, ◌<◌, ◌≤◌, ◌^◌, length};
 ghost use Rattle.cb_scan.specs.lex.Tokens.{bytes_of};
 ghost use Rattle.cb_scan.specs.steps.wide.Tokens.{token_after};
-ghost use Rattle.cb_scan.specs.steps.wide.Sights.{early_past, early_past_other, early_past_paren};
-ghost use Rattle.cb_scan.specs.steps.wide.Sights.{early_past_word, is_late, is_passed, look};
-ghost use Rattle.cb_scan.specs.steps.wide.Sights.{look_inside, open_in_phase, phase_after, seen_after};
-ghost use Rattle.cb_scan.specs.steps.wide.Sights.{idle_in, phase_of, sight_by, sight_opening};
+ghost use Rattle.cb_scan.specs.steps.wide.Sights.{early_past, early_past_mark, early_past_other};
+ghost use Rattle.cb_scan.specs.steps.wide.Sights.{early_past_paren, early_past_word, idle_in};
+ghost use Rattle.cb_scan.specs.steps.wide.Sights.{is_late, is_passed};
+ghost use Rattle.cb_scan.specs.steps.wide.Sights.{look, look_inside, open_in_phase, phase_after};
+ghost use Rattle.cb_scan.specs.steps.wide.Sights.{phase_of, seen_after, sight_by, sight_opening};
 ghost use Rattle.cb_scan.specs.steps.wide.Sights.{sight_start};
 
 use crate::lex::token::{Role, Token, WordKind};
@@ -49,17 +50,16 @@ fn phase_after(item: &WideToken) -> Phase
     }
 }
 
-/// A sight in one byte: where nothing is to open and no attribute has begun, how far one has come.
+/// A sight in one byte, where nothing is to open and no attribute is open: how much of the
+/// beginning of an attribute has come.
 #[derive(Clone, Copy)]
 enum Early {
     Clear,
     /// A word came that begins no attribute by itself.
     Word,
-    /// A word came that begins one whatever follows its `(`.
-    Attribute,
-    /// Any other word and `(` came.
+    /// Such a word and `(` came.
     Paren,
-    /// Something is to open, or an attribute has begun.
+    /// Anything else, as after a word that begins an attribute: the sight is kept beside this byte.
     Late,
 }
 
@@ -71,7 +71,7 @@ impl Early {
         matches!(self, Early::Late)
     }
 
-    /// The phase, if nothing is to open.
+    /// The phase, if this byte is the whole sight.
     #[inline(always)]
     fn phase(self) -> Option<Phase>
         ensures { result ≡ phase_of self }
@@ -79,63 +79,76 @@ impl Early {
         match self {
             Early::Clear => Some(Phase::Clear),
             Early::Word => Some(Phase::Word(false)),
-            Early::Attribute => Some(Phase::Word(true)),
             Early::Paren => Some(Phase::Paren),
             Early::Late => None,
         }
     }
 }
 
-/// After a word.
+/// After a word, where it was not late before.
 fn early_past_word(kind: WordKind, word: &[u8]) -> Early
     ensures { result ≡ early_past_word kind word.now }
 {
     match kind {
         WordKind::Struct | WordKind::Union | WordKind::Enum => Early::Late,
-        WordKind::Reserved if is_attribute_word(word) => Early::Attribute,
+        WordKind::Reserved if is_attribute_word(word) => Early::Late,
         _ => Early::Word,
     }
 }
 
-/// After a `(`.
+/// After a `(`, where it was not late before.
 #[inline(always)]
 fn early_past_paren(early: Early) -> Early
     ensures { result ≡ early_past_paren early }
 {
     match early {
-        Early::Clear | Early::Paren => Early::Clear,
         Early::Word => Early::Paren,
-        Early::Attribute | Early::Late => Early::Late,
+        _ => Early::Clear,
     }
 }
 
-/// After a string, a number or a character constant.
+/// After a string, a number or a character constant, where it was not late before.
 #[inline(always)]
 fn early_past_other(early: Early) -> Early
     ensures { result ≡ early_past_other early }
 {
     match early {
-        Early::Clear | Early::Word | Early::Attribute => Early::Clear,
-        Early::Paren | Early::Late => Early::Late,
+        Early::Paren => Early::Late,
+        _ => Early::Clear,
     }
 }
 
-/// After a token of a text, where it was not late before: not late if one byte tells all.
+/// After a mark, where it was not late before. Whether it is a `(` is hard to foresee: so what
+/// comes after a `(` is worked out before that is asked.
+#[inline(always)]
+fn early_past_mark(early: Early, mark: u8) -> Early
+    ensures { result ≡ early_past_mark early mark }
+{
+    let past_paren = early_past_paren(early);
+    if mark == b'(' {
+        past_paren
+    } else {
+        Early::Clear
+    }
+}
+
+/// After a token of a text: `Late` where one byte may not be the whole sight, and wherever it was
+/// `Late` before.
 #[inline(always)]
 fn early_past(early: Early, text: &[u8], token: &Token) -> Early
     requires order { token.now.span.start ≤ token.now.span.end }
     requires end { token.now.span.end ≤ length text.now }
     ensures { result ≡ early_past early token.now.role (bytes_of text.now token.now.span) }
 {
-    match token.role {
+    let past = match token.role {
         Role::Word(kind) => early_past_word(
             kind,
             &text[token.span.start as usize..token.span.end as usize],
         ),
-        Role::Mark(b'(') => early_past_paren(early),
-        Role::Mark(_) => Early::Clear,
+        Role::Mark(mark) => early_past_mark(early, mark),
         Role::Str | Role::Other => early_past_other(early),
-    }
+    };
+    if early.is_late() { Early::Late } else { past }
 }
 
 impl Sight {
@@ -226,7 +239,6 @@ impl Sight {
         match (&self.opening, &self.before, self.phase) {
             (None, None, Phase::Clear) => Early::Clear,
             (None, None, Phase::Word(false)) => Early::Word,
-            (None, None, Phase::Word(true)) => Early::Attribute,
             (None, None, Phase::Paren) => Early::Paren,
             _ => Early::Late,
         }
@@ -260,7 +272,7 @@ impl Watch {
         }
     }
 
-    /// A block begins.
+    /// As at the beginning of a block.
     #[inline(always)]
     pub(crate) fn restart(&mut self)
         ensures { self.new ≡ sight_start }
@@ -292,7 +304,7 @@ impl Watch {
         self.early = self.sight.early();
     }
 
-    /// The token is of an attribute that goes on after it.
+    /// The token is in an attribute, and is neither a `(` nor a `)`.
     #[inline(always)]
     fn passes(&self, token: &Token) -> bool
         ensures { result ≡ is_passed self.now.phase token.now.role }
@@ -303,8 +315,8 @@ impl Watch {
         }
     }
 
-    /// After a token of a text, by what is directly before it. It stands apart, since what it makes
-    /// of the token would else be cleared in memory for each token that says nothing.
+    /// After a token of a text, by what is directly before it. It stands apart, so that the short
+    /// way, which most tokens take, need not save registers.
     #[inline(never)]
     fn look_after(&mut self, text: &[u8], before: Before, token: &Token)
         requires order { token.now.span.start ≤ token.now.span.end }
@@ -329,13 +341,11 @@ impl Watch {
         ensures value { self.new ≡ look self.old (token_after text.now before token.now) }
         ensures small { open_in_phase self.new.phase ≤ open_in_phase self.old.phase + 1 }
     {
-        if !self.early.is_late() {
-            let early = early_past(self.early, text, token);
-            if !early.is_late() {
-                self.early = early;
-                return;
-            }
+        let early = early_past(self.early, text, token);
+        if early.is_late() {
+            self.look_after(text, before, token);
+        } else {
+            self.early = early;
         }
-        self.look_after(text, before, token);
     }
 }

@@ -124,7 +124,8 @@ impl Tail {
     }
 
     /// After the first of these tokens, which is outside parentheses and brackets. Whether a type
-    /// stands before, and the token before, are left as they are.
+    /// stands before, and the token before, are left as they are. Without a type before there is no
+    /// prototype: that is quickly told, so it is asked before one is looked for.
     #[inline(always)]
     fn add_outer(&mut self, ahead: &[WideToken], item: &WideToken)
         ensures { self.new ≡ outer_tail self.old ahead.now item.now }

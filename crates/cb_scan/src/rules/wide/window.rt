@@ -1,5 +1,6 @@
 //! Tokens that are held back until those after them are known.
 ghost use Rattle.std.specs.Prelude.{◌≡◌, ◌+◌, ◌<◌, ◌≤◌, [], ◌∷◌, ◌++◌, drop, length, take};
+ghost use Rattle.cb_scan.specs.steps.wide.HeldBack.{none_held};
 
 use crate::lex::piece::Span;
 use crate::lex::token::{Role, Token};
@@ -7,7 +8,7 @@ use crate::rules::wide::role::WideRole;
 use crate::rules::wide::token::WideToken;
 use std::marker::Model;
 
-/// More than are ever held back, so that they are rarely moved.
+/// More than are ever held back, so that they are rarely moved to make room.
 const ROOM: usize = 32;
 
 const NO_TOKEN: WideToken = WideToken {
@@ -21,8 +22,8 @@ const NO_TOKEN: WideToken = WideToken {
     counted: false,
 };
 
-/// The tokens that are held back: from `start` to `raw` those that are of no attribute, and from
-/// there to `end` those of which it is not known.
+/// The tokens that are held back: from `start` to `raw` those that are known to be of no attribute,
+/// and from there to `end` those that may yet be of one.
 #[derive(Drop)]
 pub(crate) struct Window {
     items: [WideToken; ROOM],
@@ -47,7 +48,7 @@ impl Model for Window {
 
 impl Window {
     pub(crate) fn new() -> Window
-        ensures { result ≡ record { bare = []; raw = [] } }
+        ensures { result ≡ none_held }
     {
         Window {
             items: [NO_TOKEN; ROOM],
@@ -65,7 +66,7 @@ impl Window {
         &self.items[self.start..self.raw]
     }
 
-    /// Those after them, of which it is not known.
+    /// Those after them, which may be of an attribute.
     #[inline(always)]
     pub(crate) fn raw(&self) -> &[WideToken]
         ensures { result.now ≡ self.now.raw }
@@ -90,7 +91,7 @@ impl Window {
         self.end += 1;
     }
 
-    /// The first token of which it is not known is of no attribute.
+    /// The first token that might have been of an attribute is of none.
     #[inline(always)]
     pub(crate) fn keep(&mut self)
         requires { 1 ≤ length self.old.raw }
@@ -100,7 +101,8 @@ impl Window {
         self.raw += 1;
     }
 
-    /// It is of one, and is left out.
+    /// The first token that might have been of an attribute is of one, and is left out. This is
+    /// rare: it stands apart for the reason that `Watch::look_after` has.
     #[inline(never)]
     pub(crate) fn leave_out(&mut self)
         requires { 1 ≤ length self.old.raw }

@@ -1,12 +1,11 @@
 -- What is left is taken from the state that is reached.
-use Rattle.std.proofs.Common.{◌≡◌, ◌∙◌, ◌≤◌, ap, arith, length, sym}
+use Rattle.std.proofs.Common.{◌≡◌, ◌∙◌, ◌≤◌, [], ap, arith, length, sym}
 use Rattle.std.proofs.lemmas.List.{length-drop}
 use Rattle.cb_scan.specs.steps.wide.HeldBack.{HeldBack}
 use Rattle.cb_scan.specs.steps.wide.Pass.{take_all}
-use Rattle.cb_scan.specs.steps.wide.Reading.{the_taken}
+use Rattle.cb_scan.specs.steps.wide.Reading.{the_taken, with_bare}
 use Rattle.cb_scan.proofs.WideReading.{empty, one_taken, take_none}
 use Rattle.cb_scan.proofs.rules.wide.reader.Reader.take_bare.Goals as goal
-use Rattle.cb_scan.proofs.rules.wide.reader.Reader.take_bare.Invariants.{emptied_of}
 
 pub taken-preserved : goal.taken-preserved
 taken-preserved c =
@@ -24,7 +23,7 @@ taken-preserved c =
           e.found popped
           ∙ c.taken.invariant.same;
       small = omega (arith, e.small, c.taken.invariant.small, length-drop 1 bare);
-      others = (λ i. emptied_of (record c.taken.self { window = c.pop.ensures i }))
+      others = (λ i. with_bare (record c.taken.self { window = c.pop.ensures i }) [])
           ∙ c.taken.invariant.others;
     }
 

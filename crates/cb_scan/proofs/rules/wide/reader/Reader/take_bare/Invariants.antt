@@ -1,20 +1,16 @@
 -- What is left is taken from the state that is reached.
 use Rattle.std.proofs.Common.{◌≡◌, ◌+◌, ◌≤◌, [], length}
-use Rattle.cb_scan.specs.declared.rules.wide.reader.Reader.{Reader}
 use Rattle.cb_scan.specs.steps.wide.Pass.{most_in, take_all}
-use Rattle.cb_scan.specs.steps.wide.Reading.{the_taken}
+use Rattle.cb_scan.specs.steps.wide.Reading.{the_taken, with_bare}
 use Rattle.cb_scan.proofs.rules.wide.reader.Reader.take_bare.Given as goal
-
--- with no token that is of no attribute
-abbrev pub emptied_of : Reader → Reader
-emptied_of r = record r { window = record r.window { bare = [] } }
 
 abbrev pub invariant-taken : goal.invariant-taken
 invariant-taken l = record {
   same : take_all (the_taken l.pass l.found) l.self.window.bare
       ≡ take_all (the_taken l.fn.pass l.fn.found) l.fn.self.window.bare;
-  small : most_in l.pass + length l.self.window.bare ≤ most_in l.fn.pass + length l.fn.self.window.bare;
-  others : emptied_of l.self ≡ emptied_of l.fn.self;
+  small : most_in l.pass + length l.self.window.bare
+      ≤ most_in l.fn.pass + length l.fn.self.window.bare;
+  others : with_bare l.self [] ≡ with_bare l.fn.self [];
 }
 
 abbrev pub decreases-taken : goal.decreases-taken

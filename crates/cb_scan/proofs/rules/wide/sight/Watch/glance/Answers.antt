@@ -7,13 +7,12 @@ use Rattle.cb_scan.specs.steps.wide.Tokens.{token_after}
 use Rattle.cb_scan.proofs.WideGlance.{glance_is}
 use Rattle.cb_scan.proofs.rules.wide.sight.Watch.glance.Goals as goal
 
-pub returns-then-not-is_late-2-clause-value : goal.returns-then-not-is_late-2-clause-value
-returns-then-not-is_late-2-clause-value c =
+pub returns-else-is_late-clause-value : goal.returns-else-is_late-clause-value
+returns-else-is_late-clause-value c =
     let s = c.self.inside.sight in
     let is = c.early_past-early.ensures in
-    let late = ap is_late (sym is) ∙ sym c.is_late-then-not-is_late.ensures ∙ c.if-not-is_late-2.true in
+    let late = ap is_late (sym is) ∙ sym c.is_late.ensures ∙ c.if-is_late.false in
     ap (λ (e : Early). sight_by e s) is
-    ∙ glance_is c.args.text.now c.args.before s c.args.token.now c.self.inside.early
-    (sym c.is_late.ensures ∙ c.if-not-is_late.true) late
+    ∙ glance_is c.args.text.now c.args.before s c.args.token.now c.self.inside.early late
     ∙ ap (λ (z : Sight). look z (token_after c.args.text.now c.args.before c.args.token.now))
     c.self.view_is

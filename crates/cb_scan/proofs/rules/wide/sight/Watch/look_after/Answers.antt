@@ -1,4 +1,4 @@
--- A token of an attribute says nothing.
+-- A token in an attribute, which is neither a `(` nor a `)`, says nothing.
 use Rattle.std.proofs.Common.{◌∙◌, sym}
 use Rattle.cb_scan.proofs.WideGlance.{passed_is}
 use Rattle.cb_scan.proofs.rules.wide.sight.Watch.look_after.Goals as goal

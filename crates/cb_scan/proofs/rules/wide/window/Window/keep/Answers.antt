@@ -1,4 +1,4 @@
--- The first token of which it was not known goes on to those before it.
+-- The first token that might have been of an attribute joins those that are of none.
 use Rattle.std.proofs.Common.{◌∙◌, ◌-◌, ◌<◌, ◌++◌, ap, arith, drop, length, take}
 use Rattle.std.proofs.lemmas.List.{length-take}
 use Rattle.cb_scan.proofs.Windows.{kept, popped}

@@ -1,5 +1,5 @@
--- The first token of which it was not known is left out.
-use Rattle.std.proofs.Common.{◌∙◌, ◌-◌, ◌<◌, ◌++◌, ap, arith, drop, length, take}
+-- The first token that might have been of an attribute is left out.
+use Rattle.std.proofs.Common.{◌∙◌, ◌-◌, ◌<◌, ap, arith, drop, length}
 use Rattle.std.proofs.lemmas.List.{length-take}
 use Rattle.cb_scan.proofs.Windows.{before_left_out, held, left_out}
 use Rattle.cb_scan.proofs.rules.wide.window.Window.leave_out.Goals as goal
