@@ -1,7 +1,7 @@
 -- The calls in the bodies of functions are found as the tokens of the code are read.
-use Rattle.std.proofs.Common.{◌≡◌, ◌∙◌, ℕ, ◌≤◌, Bool, true, false, List, [], ◌∷◌, ◌++◌, Option}
+use Rattle.std.proofs.Common.{◌≡◌, ◌∙◌, ℕ, Bool, true, false, List, [], ◌∷◌, ◌++◌, Option}
 use Rattle.std.proofs.Common.{None, Some, refl, sym, ap, subst, arith, drop, length, ⊎_elim}
-use Rattle.std.proofs.lemmas.Bool.{cases_Bool}
+use Rattle.std.proofs.lemmas.Bool.{cases_Bool, eqb-true}
 use Rattle.std.specs.Prelude.{◌&&◌, ◌==◌, if◌then◌else◌}
 use Rattle.std.specs.List.{AllByRecursion}
 use Rattle.std.specs.Option.{is_none, option_map, option_to_list}
@@ -14,6 +14,7 @@ use Rattle.cb_scan.specs.Bytes.{open_paren}
 use Rattle.cb_scan.specs.declared.rules.wide.machine.WideMachine.{WideMachine}
 use Rattle.cb_scan.specs.declared.rules.wide.opening.Opening.{Opening}
 use Rattle.cb_scan.specs.declared.rules.wide.reader.Reader.{Reader}
+use Rattle.cb_scan.specs.declared.rules.wide.reader.TheConstants.{FULL}
 use Rattle.cb_scan.specs.declared.rules.wide.token.WideToken.{WideToken}
 use Rattle.cb_scan.specs.rules.Depth.{depth_after}
 use Rattle.cb_scan.specs.rules.Uses.{call_of, calls_in}
@@ -35,7 +36,7 @@ use Rattle.cb_scan.specs.steps.wide.Pass.{Taken, function_found, pass_start}
 use Rattle.cb_scan.specs.steps.wide.Pass.{take_all, take_first}
 use Rattle.cb_scan.specs.steps.wide.Ranges as inside
 use Rattle.cb_scan.specs.steps.wide.Ranges.{Inside, calls_from, later_opened, next_opened, outside}
-use Rattle.cb_scan.specs.steps.wide.Reading.{held, item_of, passed, read_on}
+use Rattle.cb_scan.specs.steps.wide.Reading.{first_taken, held, item_of, passed, read_on}
 use Rattle.cb_scan.specs.steps.wide.Reading.{reader_after, reader_start, taken_after, taken_at_end}
 use Rattle.cb_scan.specs.steps.wide.Reading.{the_taken, turned}
 use Rattle.cb_scan.specs.steps.wide.Sights.{opening_along}
@@ -249,44 +250,51 @@ module _ (bs : List Body) where
         ∙ ap (depth_after q.counted q.token) (sym alike))) ∙ flat in
         body_mark ∙ flat_after i found_here q deep
 
-  -- any other token, where five tokens or fewer are held back
-  opened_five : (n : WideMachine) (a b c d e : WideToken) (rest : List WideToken) → IsInner a
-      → opened_from bs (functions.next n (a ∷ b ∷ c ∷ d ∷ e ∷ []) a) (b ∷ c ∷ d ∷ e ∷ rest)
-      ≡ opened_from bs n (a ∷ b ∷ c ∷ d ∷ e ∷ rest)
-  opened_five n a b c d e rest inner =
-      ap (λ k. opened_from bs k (b ∷ c ∷ d ∷ e ∷ rest))
-      (sym (machine_five a b c d e [] rest n))
-      ∙ sym (opens_nothing bs n a (b ∷ c ∷ d ∷ e ∷ rest) inner tt)
+  -- any other token
+  opened_five : (n : WideMachine) (a b c d e : WideToken) (s rest : List WideToken) → IsInner a
+      → opened_from bs (functions.next n (a ∷ b ∷ c ∷ d ∷ e ∷ s) a)
+      (b ∷ c ∷ d ∷ e ∷ (s ++ rest))
+      ≡ opened_from bs n (a ∷ b ∷ c ∷ d ∷ e ∷ (s ++ rest))
+  opened_five n a b c d e s rest inner =
+      ap (λ k. opened_from bs k (b ∷ c ∷ d ∷ e ∷ (s ++ rest)))
+      (sym (machine_five a b c d e s rest n))
+      ∙ sym (opens_nothing bs n a (b ∷ c ∷ d ∷ e ∷ (s ++ rest)) inner tt)
 
-  -- what stays as it is
-  record IsKept (t v : Taken) (bare rest : List WideToken) : Type 0 where
+  -- what stays as it is, with what is taken and what is left
+  record IsKept (t v : Taken) (bare left rest : List WideToken) : Type 0 where
     depth_is : v.pass.machine.depth ≡ t.pass.machine.depth
     body_is : v.pass.body ≡ t.pass.body
-    opened_are : opened_from bs v.pass.machine (left_of bare ++ rest)
+    opened_are : opened_from bs v.pass.machine (left ++ rest)
         ≡ opened_from bs t.pass.machine (bare ++ rest)
-    opens : Opens bs v.pass.opening (left_of bare ++ rest)
+    opens : Opens bs v.pass.opening (left ++ rest)
 
-  kept : (t : Taken) (bare rest : List WideToken) → length bare ≤ 5 → AllByRecursion IsInner bare
-      → IsFine t → Opens bs t.pass.opening (bare ++ rest) → IsKept t (taken_of t bare) bare rest
-  kept t [] rest few all fine same =
-      record { depth_is = refl; body_is = refl; opened_are = refl; opens = same }
-  kept t (a ∷ []) rest few all fine same =
-      record { depth_is = refl; body_is = refl; opened_are = refl; opens = same }
-  kept t (a ∷ b ∷ []) rest few all fine same =
-      record { depth_is = refl; body_is = refl; opened_are = refl; opens = same }
-  kept t (a ∷ b ∷ c ∷ []) rest few all fine same =
-      record { depth_is = refl; body_is = refl; opened_are = refl; opens = same }
-  kept t (a ∷ b ∷ c ∷ d ∷ []) rest few all fine same =
-      record { depth_is = refl; body_is = refl; opened_are = refl; opens = same }
-  kept t (a ∷ b ∷ c ∷ d ∷ e ∷ []) rest few all fine same =
-      let xs = a ∷ b ∷ c ∷ d ∷ e ∷ [] in
+  kept_first : (t : Taken) (bare rest : List WideToken) → length bare ≡ FULL
+      → AllByRecursion IsInner bare → IsFine t → Opens bs t.pass.opening (bare ++ rest)
+      → IsKept t (first_taken t bare) bare (drop 1 bare) rest
+  kept_first t (a ∷ b ∷ c ∷ d ∷ e ∷ s) rest full all fine same =
+      let xs = a ∷ b ∷ c ∷ d ∷ e ∷ s in
       record {
         depth_is = same_depth t xs a all.0;
         body_is = body_kept t xs a all.0 fine;
-        opened_are = opened_five t.pass.machine a b c d e rest all.0;
+        opened_are = opened_five t.pass.machine a b c d e s rest all.0;
         opens = same.1;
       }
-  kept t (a ∷ b ∷ c ∷ d ∷ e ∷ f ∷ s) rest few all fine same = absurd (omega arith)
+  kept_first t [] rest full all fine same = absurd (omega arith)
+  kept_first t (a ∷ []) rest full all fine same = absurd (omega arith)
+  kept_first t (a ∷ b ∷ []) rest full all fine same = absurd (omega arith)
+  kept_first t (a ∷ b ∷ c ∷ []) rest full all fine same = absurd (omega arith)
+  kept_first t (a ∷ b ∷ c ∷ d ∷ []) rest full all fine same = absurd (omega arith)
+
+  kept : (t : Taken) (bare rest : List WideToken) → AllByRecursion IsInner bare → IsFine t
+      → Opens bs t.pass.opening (bare ++ rest)
+      → IsKept t (taken_of t bare) bare (left_of bare) rest
+  kept t bare rest all fine same =
+      (elim (length bare == FULL) as (λ b. (length bare == FULL) ≡ b
+      → IsKept t (if b then first_taken t bare else t) bare (if b then drop 1 bare else bare)
+      rest) [
+        | true ↦ λ e. kept_first t bare rest (eqb-true (length bare) FULL e) all fine same
+        | false ↦ λ e. record { depth_is = refl; body_is = refl; opened_are = refl; opens = same }
+      ]) refl
 
   -- ---- all tokens
 
@@ -365,18 +373,18 @@ module _ (bs : List Body) where
         (opened_mark t s q rest last all ends fine opens)
 
     within : (r : Reader) (t : Taken) (token : Token) (ts : List Token)
-        (bare rest : List WideToken) → length bare ≤ 5 → AllByRecursion IsInner bare
+        (bare rest : List WideToken) → AllByRecursion IsInner bare
         → IsInner (item_of text r token) → taken_after text r t token ≡ taken_of t bare
         → AreCalls (reader_after text r t token) (taken_after text r t token) ts
         (left_of bare ++ rest)
         → AreCalls r t (token ∷ ts) (bare ++ rest)
     unfolding AreCalls
-    within r t token ts bare rest few all inner taken calls last fine opens =
+    within r t token ts bare rest all inner taken calls last fine opens =
         let q = item_of text r token in
         let v = taken_of t bare in
         let i = inside_of t last in
         let given = opened_from bs t.pass.machine (bare ++ rest) in
-        let same = kept t bare rest few all fine opens in
+        let same = kept t bare rest all fine opens in
         let deep : v.pass.machine.depth ≡ inside.next_depth i q =
         same.depth_is ∙ sym (depth_inner t.pass.machine.depth q inner) in
         let body : v.pass.body ≡ inside.next_body i (next_opened given) q =

@@ -1,5 +1,5 @@
 -- What is held back, one more token being read.
-use Rattle.std.proofs.Common.{◌≡◌, ◌∙◌, ◌+◌, ◌≤◌, true, false, List, [], ◌∷◌, ◌++◌}
+use Rattle.std.proofs.Common.{◌≡◌, ◌∙◌, ◌+◌, ◌<◌, ◌≤◌, true, false, List, [], ◌∷◌, ◌++◌}
 use Rattle.std.proofs.Common.{refl, sym, arith, drop, length, append_assoc}
 use Rattle.std.proofs.lemmas.List.{length-append}
 use Rattle.std.specs.Prelude.{◌==◌, if◌then◌else◌}
@@ -7,6 +7,7 @@ use Rattle.std.specs.List.{AllByRecursion}
 use Rattle.cb_scan.specs.declared.rules.functions.Before.{Before}
 use Rattle.cb_scan.specs.declared.rules.wide.attribute.Attribute.{Attribute}
 use Rattle.cb_scan.specs.declared.rules.wide.reader.Reader.{Reader}
+use Rattle.cb_scan.specs.declared.rules.wide.reader.TheConstants.{FULL}
 use Rattle.cb_scan.specs.declared.rules.wide.sight.Sight.{Sight}
 use Rattle.cb_scan.specs.declared.rules.wide.token.WideToken.{WideToken}
 use Rattle.cb_scan.specs.steps.wide.Attributes.{kept_from, leaves_out, next_attribute}
@@ -32,14 +33,14 @@ reader_of before a sight raw bare =
 pub record IsHeld (bare : List WideToken) (a : Attribute) (raw items : List WideToken) (h : Reader)
     : Type 0 where
   pub few_raw : length h.window.raw ≤ 2
-  pub few_bare : length h.window.bare ≤ 5
+  pub few_bare : length h.window.bare ≤ FULL
   pub raw_inner : AllByRecursion IsInner h.window.raw
   pub bare_inner : AllByRecursion IsInner h.window.bare
   pub kept : h.window.bare ++ kept_from h.attribute (h.window.raw ++ items)
       ≡ bare ++ kept_from a (raw ++ items)
 
 module _ (before : Before) (sight : Sight) (a : Attribute) (bare : List WideToken) (x : WideToken)
-    (items : List WideToken) (inner : IsInner x) (few : length bare ≤ 4)
+    (items : List WideToken) (inner : IsInner x) (few : length bare < FULL)
     (bare_inner : AllByRecursion IsInner bare) where
   pub held_is : (raw : List WideToken) → length raw ≤ 2 → AllByRecursion IsInner raw
       → IsHeld bare a (raw ++ x ∷ []) items (held (reader_of before a sight raw bare) x)
@@ -65,7 +66,8 @@ module _ (before : Before) (sight : Sight) (a : Attribute) (bare : List WideToke
       let longer : length (bare ++ y ∷ []) ≡ length bare + 1 = length-append bare (y ∷ []) in
       record {
         few_raw = omega arith;
-        few_bare = elim (leaves_out a raw) as (λ b. length (if b then bare else bare ++ y ∷ []) ≤ 5)
+        few_bare = elim (leaves_out a raw) as
+            (λ b. length (if b then bare else bare ++ y ∷ []) ≤ FULL)
             [ true ↦ omega arith | false ↦ omega arith ];
         raw_inner = (all.1.0, (inner, tt));
         bare_inner = elim (leaves_out a raw) as
@@ -89,6 +91,6 @@ held_before r x = elim (length (with_raw r x).window.raw == 3) as
     [ true ↦ refl | false ↦ refl ]
 
 pub emptied_is : (r : Reader) → emptied r ≡ with_bare r (left_of r.window.bare)
-emptied_is r = elim (length r.window.bare == 5) as
+emptied_is r = elim (length r.window.bare == FULL) as
     (λ b. (if b then with_bare r (drop 1 r.window.bare) else r)
     ≡ with_bare r (if b then drop 1 r.window.bare else r.window.bare)) [ true ↦ refl | false ↦ refl ]

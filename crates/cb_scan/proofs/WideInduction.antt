@@ -1,5 +1,5 @@
 -- What holds along all tokens of the code, by what is known of a token of it.
-use Rattle.std.proofs.Common.{◌≡◌, ◌∙◌, ℕ, ◌≤◌, Bool, true, false, List, [], ◌∷◌, ◌++◌}
+use Rattle.std.proofs.Common.{◌≡◌, ◌∙◌, ℕ, ◌<◌, ◌≤◌, Bool, true, false, List, [], ◌∷◌, ◌++◌}
 use Rattle.std.proofs.Common.{Option, None, refl, sym, ap, subst, arith, length, append_assoc}
 use Rattle.std.proofs.Common.{⊎_elim}
 use Rattle.std.proofs.lemmas.Bool.{cases_Bool}
@@ -10,6 +10,7 @@ use Rattle.cb_scan.specs.declared.lex.token.Token.{Token}
 use Rattle.cb_scan.specs.declared.rules.wide.attribute.Attribute.TheVariants.{Outside}
 use Rattle.cb_scan.specs.declared.rules.wide.opening.Opening.{Opening}
 use Rattle.cb_scan.specs.declared.rules.wide.reader.Reader.{Reader}
+use Rattle.cb_scan.specs.declared.rules.wide.reader.TheConstants.{FULL}
 use Rattle.cb_scan.specs.declared.rules.wide.sight.Sight.{Sight}
 use Rattle.cb_scan.specs.declared.rules.wide.token.WideToken.{WideToken}
 use Rattle.cb_scan.specs.lex.Tokens.{is_mark}
@@ -66,7 +67,7 @@ unopened_same t o = record { lists_are = refl; body_is = refl }
 -- outside of blocks few tokens are held back
 record IsOuter (r : Reader) (t : Taken) : Type 0 where
   few_raw : length r.window.raw ≤ 2
-  few_bare : length r.window.bare ≤ 4
+  few_bare : length r.window.bare < FULL
   raw_inner : AllByRecursion IsInner r.window.raw
   bare_inner : AllByRecursion IsInner r.window.bare
   state : IsOutside t
@@ -108,7 +109,7 @@ module _ (text : List ℕ) (Holds : Reader → Taken → List Token → List Wid
     → Holds r t (token ∷ ts)
     (s ++ item_of text r token ∷ without_attributes (later text r token ts)))
     (within : (r : Reader) (t : Taken) (token : Token) (ts : List Token)
-    (bare rest : List WideToken) → length bare ≤ 5 → AllByRecursion IsInner bare
+    (bare rest : List WideToken) → AllByRecursion IsInner bare
     → IsInner (item_of text r token) → taken_after text r t token ≡ taken_of t bare
     → Holds (reader_after text r t token) (taken_after text r t token) ts (left_of bare ++ rest)
     → Holds r t (token ∷ ts) (bare ++ rest)) where
@@ -141,7 +142,7 @@ module _ (text : List ℕ) (Holds : Reader → Taken → List Token → List Wid
       ∙ kept_from_start (coming text r ts))
       (reads.outer r t (record {
         few_raw = subst (λ l. length l ≤ 2) (sym empty.no_raw) (omega arith);
-        few_bare = subst (λ l. length l ≤ 4) (sym empty.no_bare) (omega arith);
+        few_bare = subst (λ l. length l < FULL) (sym empty.no_bare) (omega arith);
         raw_inner = subst (AllByRecursion IsInner) (sym empty.no_raw) tt;
         bare_inner = subst (AllByRecursion IsInner) (sym empty.no_bare) tt;
         state = record { outside = isnt; deep = deep };
@@ -246,7 +247,7 @@ module _ (text : List ℕ) (Holds : Reader → Taken → List Token → List Wid
         subst (Holds r t (token ∷ ts))
         (facts.kept
         ∙ ap (λ l. r.window.bare ++ kept_from r.attribute l) (append_assoc r.window.raw (item ∷ []) rest))
-        (within r t token ts h.window.bare bare facts.few_bare facts.bare_inner (is_inner isnt) taken
+        (within r t token ts h.window.bare bare facts.bare_inner (is_inner isnt) taken
         (subst (λ z. Holds z (taken_after text r t token) ts (left_of h.window.bare ++ bare)) (sym reader)
         (subst (λ v. Holds e v ts (left_of h.window.bare ++ bare)) (sym taken)
         (subst (λ b. Holds e u ts
@@ -295,7 +296,7 @@ module _ (text : List ℕ) (Holds : Reader → Taken → List Token → List Wid
         let taken : taken_after text r t token ≡ t = taken_is t true false is.inside isnt in
         subst (λ l. Holds r t (token ∷ ts) (without_attributes l))
         (append_assoc s (item ∷ []) rest)
-        (within r t token ts [] bare (omega arith) tt (is_inner isnt) taken
+        (within r t token ts [] bare tt (is_inner isnt) taken
         (subst (λ z. Holds z (taken_after text r t token) ts bare) (sym reader)
         (subst (λ v. Holds q v ts bare) (sym taken)
         (reads.along q t (s ++ item ∷ []) (record {

@@ -40,18 +40,16 @@ pub take_none : (t : Taken) → take_all t [] ≡ t
 unfolding take_all
 take_none t = refl
 
-pub takes_on : (t : Taken) (xs : List WideToken) (d : WideToken) → 1 ≤ length xs
+takes_on : (t : Taken) (xs : List WideToken) (d : WideToken) → 1 ≤ length xs
     → take_all (take_first t xs (get_or xs 0 d)) (drop 1 xs) ≡ take_all t xs
 unfolding take_all
 takes_on t [] d some = absurd (omega arith)
 takes_on t (x ∷ xs) d some = refl
 
 -- the same, as the code does it
-pub one_taken : (t : Taken) (xs us vs ys : List WideToken) (d : WideToken) (p : Pass) (l : Lists)
-    → us ≡ xs → vs ≡ xs → 1 ≤ length xs → p ≡ next_pass t.pass vs (get_or us 0 d)
-    → l ≡ next_lists t.lists t.pass vs (get_or us 0 d) → ys ≡ drop 1 xs
+pub one_taken : (t : Taken) (xs ys : List WideToken) (d : WideToken) (p : Pass) (l : Lists)
+    → 1 ≤ length xs → p ≡ next_pass t.pass xs (get_or xs 0 d)
+    → l ≡ next_lists t.lists t.pass xs (get_or xs 0 d) → ys ≡ drop 1 xs
     → take_all (the_taken p l) ys ≡ take_all t xs
-one_taken t xs us vs ys d p l us_are vs_are some p_is l_is ys_are =
-    (λ k. take_all (the_taken (p_is k) (l_is k)) (ys_are k))
-    ∙ (λ k. take_all (take_first t (vs_are k) (get_or (us_are k) 0 d)) (drop 1 xs))
-    ∙ takes_on t xs d some
+one_taken t xs ys d p l some p_is l_is ys_are =
+    (λ k. take_all (the_taken (p_is k) (l_is k)) (ys_are k)) ∙ takes_on t xs d some

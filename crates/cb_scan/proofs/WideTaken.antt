@@ -1,7 +1,7 @@
--- What the pass over the bare tokens takes up to a mark, and five tokens at a time.
-use Rattle.std.proofs.Common.{◌≡◌, ◌∙◌, ◌≤◌, true, false, List, [], ◌∷◌, ◌++◌}
-use Rattle.std.proofs.Common.{Option, None, Some, refl, sym, ap, arith, drop, length}
-use Rattle.std.proofs.lemmas.Bool.{true≢false}
+-- What the pass over the bare tokens takes up to a mark, and a token at a time.
+use Rattle.std.proofs.Common.{◌≡◌, ◌≢◌, ◌∙◌, ◌<◌, ◌≤◌, true, false, List, [], ◌∷◌}
+use Rattle.std.proofs.Common.{◌++◌, Option, None, Some, refl, sym, ap, arith, drop, length}
+use Rattle.std.proofs.lemmas.Bool.{eqb-false, eqb-true, true≢false}
 use Rattle.std.specs.Prelude.{◌==◌, if◌then◌else◌}
 use Rattle.std.specs.List.{AllByRecursion}
 use Rattle.std.specs.Option.{is_some, option_map}
@@ -11,6 +11,7 @@ use Rattle.cb_scan.specs.declared.rules.wide.level.Level.{Level}
 use Rattle.cb_scan.specs.declared.rules.wide.level.Level.TheVariants.{Block, Enumerators, Members}
 use Rattle.cb_scan.specs.declared.rules.wide.opening.Opening.{Opening}
 use Rattle.cb_scan.specs.declared.rules.wide.pass.Pass.{Pass}
+use Rattle.cb_scan.specs.declared.rules.wide.reader.TheConstants.{FULL}
 use Rattle.cb_scan.specs.declared.rules.wide.token.WideToken.{WideToken}
 use Rattle.cb_scan.specs.rules.wide.Attributes.{ends_attribute}
 use Rattle.cb_scan.specs.rules.wide.Bodies.{body_kind}
@@ -64,42 +65,54 @@ module _ (q : WideToken) (rest : List WideToken) (ends : ends_attribute q.role �
       ap (λ u. take_all u (s ++ q ∷ rest)) (taken_before t x s)
       ∙ taken_to_mark (take_first t (x ∷ s) x) s
 
--- ---- five tokens at a time
+-- ---- a token at a time
 
--- what is taken of five tokens or fewer, and what is left of them
+-- what is taken of the tokens that are held back, and what is left of them
 abbrev pub taken_of : Taken → List WideToken → Taken
-taken_of t bare = if length bare == 5 then first_taken t bare else t
+taken_of t bare = if length bare == FULL then first_taken t bare else t
 
 abbrev pub left_of : List WideToken → List WideToken
-left_of bare = if length bare == 5 then drop 1 bare else bare
+left_of bare = if length bare == FULL then drop 1 bare else bare
 
-pub taken_five : (t : Taken) (bare rest : List WideToken) → length bare ≤ 5
-    → take_all t (bare ++ rest) ≡ take_all (taken_of t bare) (left_of bare ++ rest)
+-- of so many tokens the first looks at no more than five
+taken_full : (t : Taken) (bare rest : List WideToken) → length bare ≡ FULL
+    → take_all t (bare ++ rest) ≡ take_all (first_taken t bare) (drop 1 bare ++ rest)
 unfolding take_all
-taken_five t [] rest few = refl
-taken_five t (a ∷ []) rest few = refl
-taken_five t (a ∷ b ∷ []) rest few = refl
-taken_five t (a ∷ b ∷ c ∷ []) rest few = refl
-taken_five t (a ∷ b ∷ c ∷ d ∷ []) rest few = refl
-taken_five t (a ∷ b ∷ c ∷ d ∷ e ∷ []) rest few = λ i. take_all (record {
-  pass = pass_five a b c d e [] rest t.pass i;
-  lists = lists_five a b c d e [] rest t.lists t.pass i;
-}) (b ∷ c ∷ d ∷ e ∷ rest)
-taken_five t (a ∷ b ∷ c ∷ d ∷ e ∷ f ∷ s) rest few = absurd (omega arith)
+taken_full t (a ∷ b ∷ c ∷ d ∷ e ∷ s) rest full = λ i. take_all (record {
+  pass = pass_five a b c d e s rest t.pass i;
+  lists = lists_five a b c d e s rest t.lists t.pass i;
+}) (b ∷ c ∷ d ∷ e ∷ (s ++ rest))
+taken_full t [] rest full = absurd (omega arith)
+taken_full t (a ∷ []) rest full = absurd (omega arith)
+taken_full t (a ∷ b ∷ []) rest full = absurd (omega arith)
+taken_full t (a ∷ b ∷ c ∷ []) rest full = absurd (omega arith)
+taken_full t (a ∷ b ∷ c ∷ d ∷ []) rest full = absurd (omega arith)
 
-pub left_few : (bare : List WideToken) → length bare ≤ 5 → length (left_of bare) ≤ 4
-left_few [] few = omega arith
-left_few (a ∷ []) few = omega arith
-left_few (a ∷ b ∷ []) few = omega arith
-left_few (a ∷ b ∷ c ∷ []) few = omega arith
-left_few (a ∷ b ∷ c ∷ d ∷ []) few = omega arith
-left_few (a ∷ b ∷ c ∷ d ∷ e ∷ []) few = omega arith
-left_few (a ∷ b ∷ c ∷ d ∷ e ∷ f ∷ s) few = absurd (omega arith)
+pub taken_left : (t : Taken) (bare rest : List WideToken)
+    → take_all t (bare ++ rest) ≡ take_all (taken_of t bare) (left_of bare ++ rest)
+taken_left t bare rest =
+    (elim (length bare == FULL) as (λ b. (length bare == FULL) ≡ b → take_all t (bare ++ rest)
+    ≡ take_all (if b then first_taken t bare else t) ((if b then drop 1 bare else bare) ++ rest)) [
+      | true ↦ λ e. taken_full t bare rest (eqb-true (length bare) FULL e)
+      | false ↦ λ e. refl
+    ]) refl
+
+fewer : (bare : List WideToken) → length bare ≡ FULL → length (drop 1 bare) < FULL
+fewer [] full = omega arith
+fewer (x ∷ s) full = omega arith
+
+pub left_few : (bare : List WideToken) → length bare ≤ FULL → length (left_of bare) < FULL
+left_few bare few =
+    (elim (length bare == FULL) as (λ b. (length bare == FULL) ≡ b
+    → length (if b then drop 1 bare else bare) < FULL) [
+      | true ↦ λ e. fewer bare (eqb-true (length bare) FULL e)
+      | false ↦ λ e. let other : length bare ≢ FULL = eqb-false (length bare) FULL e in omega arith
+    ]) refl
 
 pub left_inner : (bare : List WideToken) → AllByRecursion IsInner bare
     → AllByRecursion IsInner (left_of bare)
 left_inner [] all = tt
-left_inner (x ∷ s) all = elim (length (x ∷ s) == 5) as
+left_inner (x ∷ s) all = elim (length (x ∷ s) == FULL) as
     (λ b. AllByRecursion IsInner (if b then s else x ∷ s)) [ true ↦ all.1 | false ↦ all ]
 
 -- ---- what stays as it is
@@ -138,7 +151,7 @@ outside_first t (x ∷ s) all is = record {
 
 pub outside_taken : (t : Taken) (bare : List WideToken) → AllByRecursion IsInner bare → IsOutside t
     → IsOutside (taken_of t bare)
-outside_taken t bare all is = elim (length bare == 5) as
+outside_taken t bare all is = elim (length bare == FULL) as
     (λ b. IsOutside (if b then first_taken t bare else t))
     [ true ↦ outside_first t bare all is | false ↦ is ]
 

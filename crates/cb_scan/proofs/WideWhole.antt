@@ -18,7 +18,7 @@ use Rattle.cb_scan.specs.steps.wide.Reading.{the_taken}
 use Rattle.cb_scan.proofs.WideInduction.{IsSame, holds_at_start, later, moved}
 use Rattle.cb_scan.proofs.WideSegments.{IsInner}
 use Rattle.cb_scan.proofs.WideTaken.{left_of}
-use Rattle.cb_scan.proofs.WideTaken.{taken_five, taken_of}
+use Rattle.cb_scan.proofs.WideTaken.{taken_left, taken_of}
 use Rattle.cb_scan.proofs.WideTaken.{taken_to_mark}
 
 -- all of the code is read, from a state on
@@ -53,15 +53,15 @@ module _ (text : List ℕ) where
       ∙ sym (taken_to_mark (item_of text r token) rest ends t s))
 
   within : (r : Reader) (t : Taken) (token : Token) (ts : List Token)
-      (bare rest : List WideToken) → length bare ≤ 5 → AllByRecursion IsInner bare
+      (bare rest : List WideToken) → AllByRecursion IsInner bare
       → IsInner (item_of text r token) → taken_after text r t token ≡ taken_of t bare
       → TakesAll (reader_after text r t token) (taken_after text r t token) ts
       (left_of bare ++ rest)
       → TakesAll r t (token ∷ ts) (bare ++ rest)
   unfolding read_all TakesAll
-  within r t token ts bare rest few all inner taken same =
+  within r t token ts bare rest all inner taken same =
       moved refl same
-      (ap (λ u. take_all u (left_of bare ++ rest)) taken ∙ sym (taken_five t bare rest few))
+      (ap (λ u. take_all u (left_of bare ++ rest)) taken ∙ sym (taken_left t bare rest))
 
   -- from the beginning of the code
   pub whole_is : (ts : List Token) (l : Lists)

@@ -14,6 +14,7 @@ use Rattle.cb_scan.specs.declared.rules.wide.attribute.Attribute.TheVariants.{Ou
 use Rattle.cb_scan.specs.declared.rules.wide.opening.Opening.{Opening}
 use Rattle.cb_scan.specs.declared.rules.wide.pass.Pass.{Pass}
 use Rattle.cb_scan.specs.declared.rules.wide.reader.Reader.{Reader}
+use Rattle.cb_scan.specs.declared.rules.wide.reader.TheConstants.{FULL}
 use Rattle.cb_scan.specs.declared.rules.wide.sight.Sight.{Sight}
 use Rattle.cb_scan.specs.declared.rules.wide.token.WideToken.{WideToken}
 use Rattle.cb_scan.specs.rules.wide.Attributes.{ends_attribute}
@@ -72,9 +73,9 @@ released r = record r {
 abbrev pub with_bare : Reader → List WideToken → Reader
 with_bare r bare = record r { window = record r.window { bare = bare } }
 
--- five are enough to take the first
+-- so many are held back before the first is taken: five would be enough
 abbrev pub is_full : Reader → Bool
-is_full r = length r.window.bare == 5
+is_full r = length r.window.bare == FULL
 
 abbrev pub emptied : Reader → Reader
 emptied r = if is_full r then with_bare r (drop 1 r.window.bare) else r

@@ -176,13 +176,14 @@ impl Declaration {
         ensures value { self.new ≡ grown self.old ahead.now item.now }
         ensures small { self.new.count ≤ self.old.count + 1 }
     {
-        if self.count == 0 {
+        let is_outer = self.count == 0;
+        self.closes = closes(item);
+        self.count = nesting_after(&item.token, self.count);
+        if is_outer {
             self.note(item);
             self.part.add(ahead, item, true);
         } else {
             self.part.add(ahead, item, false);
         }
-        self.closes = closes(item);
-        self.count = nesting_after(&item.token, self.count);
     }
 }

@@ -108,7 +108,32 @@ impl Joint {
         self.pass.opening = opening;
     }
 
+    /// Takes the first of these tokens, with which the two may go apart. It stands apart, so that
+    /// the short way, which most tokens take, need not save registers.
+    #[inline(never)]
+    fn take_apart(
+        &mut self,
+        found: &mut Found,
+        ahead: &[WideToken],
+        item: &WideToken,
+    ) -> Result<(), AllocError>
+        requires { most_in self.old + 1 < 2 ^ 32 }
+        ensures pass { IfOk result (λ _. self.new ≡ next_pass self.old ahead.now item.now) }
+        ensures small { IfOk result (λ _. most_in self.new ≤ most_in self.old + 1) }
+        ensures found { IfOk result
+            (λ _. found.new ≡ next_lists found.old self.old ahead.now item.now) }
+    {
+        if self.together {
+            self.pass.part();
+            self.together = false;
+        }
+        self.pass.take(found, ahead, item)?;
+        self.together = self.pass.is_new();
+        Ok(())
+    }
+
     /// Takes the first of these tokens.
+    #[inline(always)]
     pub(crate) fn take(
         &mut self,
         found: &mut Found,
@@ -124,12 +149,6 @@ impl Joint {
         if self.together && self.pass.stays_together(item) {
             return self.pass.take_together(found, ahead, item);
         }
-        if self.together {
-            self.pass.part();
-            self.together = false;
-        }
-        self.pass.take(found, ahead, item)?;
-        self.together = self.pass.is_new();
-        Ok(())
+        self.take_apart(found, ahead, item)
     }
 }

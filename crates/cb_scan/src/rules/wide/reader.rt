@@ -1,6 +1,7 @@
 //! The pass of the wide profile over all tokens of the code. Tokens that may be of an attribute, or
 //! ahead of which more is to be seen, are held back.
 ghost use Rattle.std.specs.Prelude.{◌≡◌, ◌+◌, ◌<◌, ◌≤◌, ◌^◌, ◌∷◌, [], drop, length, IfOk};
+ghost use Rattle.cb_scan.specs.declared.rules.wide.reader.TheConstants.{FULL};
 ghost use Rattle.cb_scan.specs.rules.wide.Attributes.{ends_attribute};
 ghost use Rattle.cb_scan.specs.steps.wide.Attributes.{open_count};
 ghost use Rattle.cb_scan.specs.steps.wide.Contents.{are_in_block};
@@ -24,6 +25,11 @@ use crate::rules::wide::sight::Watch;
 use crate::rules::wide::token::{WideToken, token_as};
 use crate::rules::wide::window::Window;
 use std::alloc::AllocError;
+
+/// So many tokens that are of no attribute are held back before the first of them is taken. Five
+/// would do; but most declarations are shorter than this, and their tokens are quickly taken one
+/// right after the other, where a `;` or a brace ends them.
+const FULL: usize = 28;
 
 /// What is directly before the next token, how far an attribute has come, what a `{` would open
 /// inside a block, and the tokens that are held back.
@@ -95,12 +101,12 @@ impl Reader {
     #[inline(always)]
     fn hold(&mut self, item: WideToken)
         requires raw { length self.old.window.raw ≤ 2 }
-        requires bare { length self.old.window.bare ≤ 4 }
+        requires bare { length self.old.window.bare < FULL }
         requires small { open_count self.old.attribute + 1 < 2 ^ 32 }
         ensures value { self.new ≡ held self.old item }
         ensures small { open_count self.new.attribute ≤ open_count self.old.attribute + 1 }
         ensures raw { length self.new.window.raw ≤ 2 }
-        ensures bare { length self.new.window.bare ≤ 5 }
+        ensures bare { length self.new.window.bare ≤ FULL }
         ensures more { held_len self.new ≤ held_len self.old + 1 }
     {
         self.window.push(item);
@@ -112,7 +118,7 @@ impl Reader {
     /// Leaves out or keeps all of them, where nothing that is to come is seen from them.
     fn release(&mut self)
         requires raw { length self.old.window.raw ≤ 2 }
-        requires bare { length self.old.window.bare ≤ 4 }
+        requires bare { length self.old.window.bare < FULL }
         requires small { open_count self.old.attribute + 2 < 2 ^ 32 }
         ensures value { self.new ≡ released self.old }
         ensures more { length self.new.window.bare ≤ held_len self.old }
@@ -124,6 +130,7 @@ impl Reader {
     }
 
     /// Takes all that are of no attribute.
+    #[inline(never)]
     fn take_bare(&mut self, pass: &mut Joint, found: &mut Found) -> Result<(), AllocError>
         requires { most_in pass.old + length self.old.window.bare < 2 ^ 32 }
         ensures reader { IfOk result (λ _. self.new ≡ with_bare self.old []) }
@@ -133,14 +140,17 @@ impl Reader {
         ensures small { IfOk result
             (λ _. most_in pass.new ≤ most_in pass.old + length self.old.window.bare) }
     {
-        'taken: while let [item, ..] = self.window.bare() {
-            pass.take(found, self.window.bare(), item)?;
-            self.window.pop();
+        let mut rest = self.window.bare();
+        'taken: while let [item, later @ ..] = rest {
+            pass.take(found, rest, item)?;
+            rest = later;
         }
+        self.window.clear();
         Ok(())
     }
 
     /// Takes the first of them.
+    #[inline(never)]
     fn take_first(&mut self, pass: &mut Joint, found: &mut Found) -> Result<(), AllocError>
         requires some { 1 ≤ length self.old.window.bare }
         requires small { most_in pass.old + 1 < 2 ^ 32 }
@@ -167,7 +177,7 @@ impl Reader {
         item: WideToken,
     ) -> Result<(), AllocError>
         requires raw { length self.old.window.raw ≤ 2 }
-        requires bare { length self.old.window.bare ≤ 4 }
+        requires bare { length self.old.window.bare < FULL }
         requires small { most_in pass.old + held_len self.old + 1 < 2 ^ 32 }
         requires left_out { open_count self.old.attribute + 1 < 2 ^ 32 }
         ensures reader { IfOk result (λ _. self.new ≡ emptied (held self.old item)) }
@@ -180,16 +190,17 @@ impl Reader {
         ensures left_out { IfOk result
             (λ _. open_count self.new.attribute ≤ open_count self.old.attribute + 1) }
         ensures raw { IfOk result (λ _. length self.new.window.raw ≤ 2) }
-        ensures bare { IfOk result (λ _. length self.new.window.bare ≤ 4) }
+        ensures bare { IfOk result (λ _. length self.new.window.bare < FULL) }
     {
         self.hold(item);
-        if self.window.bare().len() == 5 {
+        if self.window.bare().len() == FULL {
             self.take_first(pass, found)?;
         }
         Ok(())
     }
 
     /// A brace or a `;`, before which all that is held back is taken.
+    #[inline(never)]
     fn turn(
         &mut self,
         pass: &mut Joint,
@@ -198,7 +209,7 @@ impl Reader {
         item: &WideToken,
     ) -> Result<(), AllocError>
         requires raw { length self.old.window.raw ≤ 2 }
-        requires bare { length self.old.window.bare ≤ 4 }
+        requires bare { length self.old.window.bare < FULL }
         requires small { most_in pass.old + held_len self.old + 1 < 2 ^ 32 }
         requires left_out { open_count self.old.attribute + 2 < 2 ^ 32 }
         ensures reader { IfOk result (λ _. self.new ≡ turned in_block self.old) }
@@ -212,7 +223,7 @@ impl Reader {
         ensures left_out { IfOk result
             (λ _. open_count self.new.attribute ≤ open_count self.old.attribute) }
         ensures raw { IfOk result (λ _. length self.new.window.raw ≤ 2) }
-        ensures bare { IfOk result (λ _. length self.new.window.bare ≤ 4) }
+        ensures bare { IfOk result (λ _. length self.new.window.bare < FULL) }
     {
         if in_block {
             pass.open(self.sight.opening());
@@ -236,7 +247,7 @@ impl Reader {
         item: WideToken,
     ) -> Result<(), AllocError>
         requires raw { length self.old.window.raw ≤ 2 }
-        requires bare { length self.old.window.bare ≤ 4 }
+        requires bare { length self.old.window.bare < FULL }
         requires small { most_in pass.old + held_len self.old + 1 < 2 ^ 32 }
         requires left_out { most_left_out self.old + 1 < 2 ^ 32 }
         ensures reader { IfOk result (λ _. self.new ≡ read_on in_block self.old item) }
@@ -249,7 +260,7 @@ impl Reader {
         ensures left_out { IfOk result
             (λ _. most_left_out self.new ≤ most_left_out self.old + 1) }
         ensures raw { IfOk result (λ _. length self.new.window.raw ≤ 2) }
-        ensures bare { IfOk result (λ _. length self.new.window.bare ≤ 4) }
+        ensures bare { IfOk result (λ _. length self.new.window.bare < FULL) }
     {
         if in_block {
             self.sight.look(&item);
@@ -273,7 +284,7 @@ impl Reader {
         requires order { token.now.span.start ≤ token.now.span.end }
         requires end { token.now.span.end ≤ length text.now }
         requires raw { length self.old.window.raw ≤ 2 }
-        requires bare { length self.old.window.bare ≤ 4 }
+        requires bare { length self.old.window.bare < FULL }
         requires small { most_in pass.old + held_len self.old + 1 < 2 ^ 32 }
         requires left_out { most_left_out self.old + 2 < 2 ^ 32 }
         ensures reader { IfOk result (λ _. self.new
@@ -288,7 +299,7 @@ impl Reader {
         ensures left_out { IfOk result
             (λ _. most_left_out self.new ≤ most_left_out self.old + 1) }
         ensures raw { IfOk result (λ _. length self.new.window.raw ≤ 2) }
-        ensures bare { IfOk result (λ _. length self.new.window.bare ≤ 4) }
+        ensures bare { IfOk result (λ _. length self.new.window.bare < FULL) }
     {
         let role = wide_role(text, token);
         if ends_attribute(role) {
@@ -310,7 +321,7 @@ impl Reader {
         requires order { token.now.span.start ≤ token.now.span.end }
         requires end { token.now.span.end ≤ length text.now }
         requires raw { length self.old.window.raw ≤ 2 }
-        requires bare { length self.old.window.bare ≤ 4 }
+        requires bare { length self.old.window.bare < FULL }
         requires small { most_in pass.old + held_len self.old + 1 < 2 ^ 32 }
         requires left_out { most_left_out self.old + 2 < 2 ^ 32 }
         ensures reader { IfOk result (λ _. self.new
@@ -324,7 +335,7 @@ impl Reader {
         ensures left_out { IfOk result
             (λ _. most_left_out self.new ≤ most_left_out self.old + 1) }
         ensures raw { IfOk result (λ _. length self.new.window.raw ≤ 2) }
-        ensures bare { IfOk result (λ _. length self.new.window.bare ≤ 4) }
+        ensures bare { IfOk result (λ _. length self.new.window.bare < FULL) }
     {
         let before = self.before;
         let in_block = pass.are_in_block();
@@ -354,7 +365,7 @@ impl Reader {
     /// The end of the code.
     pub(crate) fn finish(&mut self, pass: &mut Joint, found: &mut Found) -> Result<(), AllocError>
         requires raw { length self.old.window.raw ≤ 2 }
-        requires bare { length self.old.window.bare ≤ 4 }
+        requires bare { length self.old.window.bare < FULL }
         requires small { most_in pass.old + held_len self.old + 1 < 2 ^ 32 }
         requires left_out { most_left_out self.old + 2 < 2 ^ 32 }
         ensures { IfOk result

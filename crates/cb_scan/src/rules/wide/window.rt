@@ -9,7 +9,7 @@ use crate::rules::wide::token::WideToken;
 use std::marker::Model;
 
 /// More than are ever held back, so that they are rarely moved to make room.
-const ROOM: usize = 32;
+const ROOM: usize = 64;
 
 const NO_TOKEN: WideToken = WideToken {
     token: Token {
@@ -43,7 +43,7 @@ impl Model for Window {
       raw = take (w.end - w.raw) (drop w.raw w.items);
     } };
 
-    ghost invariant = { λ w. (w.start ≤ w.raw) × (w.raw ≤ w.end) × (w.end ≤ 32) };
+    ghost invariant = { λ w. (w.start ≤ w.raw) × (w.raw ≤ w.end) × (w.end ≤ 64) };
 }
 
 impl Window {
@@ -77,7 +77,7 @@ impl Window {
     /// One more token, behind all others.
     #[inline(always)]
     pub(crate) fn push(&mut self, item: WideToken)
-        requires { length self.old.bare + length self.old.raw < 32 }
+        requires { length self.old.bare + length self.old.raw < 64 }
         ensures { self.new ≡ record self.old { raw = self.old.raw ++ (item ∷ []) } }
     {
         if self.end == ROOM {
@@ -111,6 +111,14 @@ impl Window {
         let (raw, end) = (self.raw, self.end);
         self.items.copy_within(raw + 1..end, raw);
         self.end = end - 1;
+    }
+
+    /// Without the tokens that are of no attribute.
+    #[inline(always)]
+    pub(crate) fn clear(&mut self)
+        ensures { self.new ≡ record self.old { bare = [] } }
+    {
+        self.start = self.raw;
     }
 
     /// Without the next token.

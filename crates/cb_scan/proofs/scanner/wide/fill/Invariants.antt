@@ -1,8 +1,9 @@
 -- What is read and what is still to come are all, and list by list so for the lines.
-use Rattle.std.proofs.Common.{◌≡◌, ◌+◌, ◌≤◌, ◌++◌, None, length, map}
+use Rattle.std.proofs.Common.{◌≡◌, ◌+◌, ◌<◌, ◌≤◌, ◌++◌, None, length, map}
 use Rattle.std.specs.List.{AllByRecursion, flat_map}
 use Rattle.cb_scan.specs.steps.Cut.{pieces}
 use Rattle.cb_scan.specs.rules.Code.{code, directives, logical_lines}
+use Rattle.cb_scan.specs.declared.rules.wide.reader.TheConstants.{FULL}
 use Rattle.cb_scan.specs.declared.source.TheConstants.{MOST_BYTES}
 use Rattle.cb_scan.specs.Definitions.{macro_def}
 use Rattle.cb_scan.specs.Profiles.{kept}
@@ -43,5 +44,5 @@ invariant-loop-lined l = record {
   room : most_in l.pass + held_len l.reader + length l.lined-iterator ≤ MOST_BYTES;
   left_out : most_left_out l.reader + length l.lined-iterator ≤ MOST_BYTES;
   raw : length l.reader.window.raw ≤ 2;
-  bare : length l.reader.window.bare ≤ 4;
+  bare : length l.reader.window.bare < FULL;
 }

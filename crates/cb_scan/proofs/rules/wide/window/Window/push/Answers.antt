@@ -13,8 +13,8 @@ returns c =
     let fits = c.requires in
     let bare_long = ap (λ v. length v.bare) c.self.view_is in
     let raw_long = ap (λ v. length v.raw) c.self.view_is in
-    let room : length i.items ≡ 32 = omega arith in
-    let few : i.end - i.start < 32 =
+    let room : length i.items ≡ 64 = omega arith in
+    let few : i.end - i.start < 64 =
     omega (
       arith,
       length-take (i.raw - i.start) (drop i.start i.items),
