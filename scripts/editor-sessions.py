@@ -445,6 +445,7 @@ ask 2 hover m.c 0 5
 hover 2 0:4-7 m.c:1\\nint two(void) {
 > {
 log not JSON
+show m.c: out of date, a message was dropped: close the file and open it again
 close m.c
 """
 

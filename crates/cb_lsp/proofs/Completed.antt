@@ -21,7 +21,9 @@ use Rattle.cb_scan.proofs.OrderLemmas.{Sorted, in_order_sorted}
 use Rattle.cb_scan.specs.declared.profile.Profile.{Profile}
 use Rattle.cb_scan.specs.Order.{goes_first, in_order}
 use Rattle.cb_tags.specs.TagLines.{Tag}
-use Rattle.cb_lsp.specs.Completions.{begin_with, completing, first_of_each}
+use Rattle.cb_wire.specs.Completions.{completion_list}
+use Rattle.cb_lsp.specs.Completions.{begin_with, completing, completions_before, completions_of}
+use Rattle.cb_lsp.specs.Completions.{first_of_each}
 use Rattle.cb_lsp.specs.steps.Completions.{names_behind}
 use Rattle.cb_lsp.specs.steps.Meanings.{IsUpTo}
 use Rattle.cb_lsp.proofs.Reaches.{apart, swapped}
@@ -266,11 +268,12 @@ module _ (word : List ℕ) where
 
 -- ---- a word that is empty, or is not
 
-pub none-complete : (w : World) (word : List ℕ) → length word < 1 → completing w word ≡ []
+pub none-complete : (w : World) (word : List ℕ) → length word < 1
+    → completions_before w word ≡ completion_list true []
 none-complete w [] none = refl
 none-complete w (b ∷ bs) none = absurd (omega (arith, none))
 
 pub some-complete : (w : World) (word : List ℕ) → 1 ≤ length word
-    → first_of_each (begin_with word (tags_by_name w.profile w.files)) ≡ completing w word
+    → completions_of (completing w word) ≡ completions_before w word
 some-complete w [] some = absurd (omega (arith, some))
 some-complete w (b ∷ bs) some = refl

@@ -16,7 +16,7 @@ use Rattle.cb_lsp.specs.declared.notice.FileEvent.{FileEvent}
 use Rattle.cb_lsp.specs.declared.notice.FileEvent.TheVariants.{Written, Gone}
 use Rattle.cb_lsp.specs.Documents.{Looked, Reading, Oracle}
 use Rattle.cb_lsp.specs.Messages.{Outcome, Serving, all_happened, and_then, happened, happened_as}
-use Rattle.cb_lsp.specs.Messages.{happened_at, happened_in, happened_to, unread}
+use Rattle.cb_lsp.specs.Messages.{happened_at, happened_in, happened_to, replies, unread}
 use Rattle.cb_lsp.specs.Params.{event_of, text_in}
 use Rattle.cb_lsp.specs.steps.Works.{one_change, one_event}
 use Rattle.cb_lsp.specs.Bodies.{written_text}
@@ -44,7 +44,7 @@ to-first : (kind : FileEvent) (m n : Bool) (f : Reading) (more : Oracle) (s : Se
     → happened_to kind (first_of_all m n f more) s uri ≡ happened_to kind (one_event m n f) s uri
 to-first kind m n f more s None = refl
 to-first kind m n f more s (Some uri) =
-    ap (λ (o : Outcome). if m then unread s uri else o) (at-first kind n f more s (path_of uri))
+    ap (λ (o : Outcome). if m then replies s (unread uri) else o) (at-first kind n f more s (path_of uri))
 
 as-first : (kind : Option FileEvent) (m n : Bool) (f : Reading) (more : Oracle) (s : Serving)
     (event : Json)

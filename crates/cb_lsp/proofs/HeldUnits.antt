@@ -1,6 +1,6 @@
 -- What an editor has of its documents are the units of what a client has that holds bytes.
 use Rattle.std.proofs.Common.{◌≡◌, ◌∙◌, sym, ap, refl, subst, ℕ, Bool, true, false, cond}
-use Rattle.std.proofs.Common.{List, [], ◌∷◌, codes, Option, None, Some}
+use Rattle.std.proofs.Common.{List, [], ◌∷◌, codes, Option, None, Some, ◌⊎◌, inl, inr}
 use Rattle.std.specs.Prelude.{IfSome}
 use Rattle.std.specs.List.{AllByRecursion}
 use Rattle.std.specs.Option.{option_map}
@@ -28,7 +28,9 @@ use Rattle.cb_lsp.specs.Messages.{requested}
 use Rattle.cb_lsp.specs.Messages.{too_large}
 use Rattle.cb_lsp.specs.Params.{changes_in, document_text, uri_in}
 use Rattle.cb_lsp.specs.Questions.{asked_by}
-use Rattle.cb_lsp.specs.Sync.{Arrived, Sent, after_all, arrives, in_bytes, name_of, nothing_sent}
+use Rattle.cb_lsp.specs.Bodies.{Turn, after, refused, taken}
+use Rattle.cb_lsp.specs.Sync.{Arrived, HasArrived, IsDropped, Sent, after_all, in_bytes, name_of}
+use Rattle.cb_lsp.specs.Sync.{nothing_sent}
 use Rattle.cb_lsp.specs.Sync.{sent_after, sent_at, sent_if, sent_in_all, sent_of, text_after}
 use Rattle.cb_lsp.specs.Sync.{text_changed, text_opened}
 use Rattle.cb_lsp.proofs.Editors.{AreSame, held-units, same, through-same}
@@ -164,15 +166,57 @@ message-held o s sent held all (notification method params) texts =
 message-held o s sent held all (request id method params) texts =
     asks s sent held all id method params s.stage o all
 
+-- what is held after a message, of a server that stays as far as its client is concerned
+sent-at-held : (c : Client) (sent held : Sent) (method : List ℕ) (params : Option Json)
+    → HasTexts (notice_of method) params → (stage : Stage) → Held stage c.encoding sent held
+    → Held stage c.encoding (sent_at in_bytes stage c sent method params)
+    (sent_at in_units stage c held method params)
+sent-at-held c sent held method params texts Fresh h = h
+sent-at-held c sent held method params texts Down h = h
+sent-at-held c sent held method params texts Running h =
+    if-same c sent held h (notice_of method) params texts
+
+sent-held : (s : Serving) (sent held : Sent) → AreHeld s sent held → (m : Message)
+    → TellsTexts m → AreHeld s (sent_after in_bytes s sent m) (sent_after in_units s held m)
+sent-held s sent held all not_json texts = all
+sent-held s sent held all not_request texts = all
+sent-held s sent held all reply texts = all
+sent-held s sent held all too_large texts = all
+sent-held s sent held all (notification method params) texts =
+    sent-at-held s.client sent held method params texts s.stage all
+sent-held s sent held all (request id method params) texts = all
+
+dropped-held : (s : Serving) (sent held : Sent) → AreHeld s sent held → (t : Turn) → IsDropped t
+    → AreHeld (after s t) sent held
+unfolding does
+dropped-held s sent held all (taken not_json o) is = all
+dropped-held s sent held all (taken too_large o) is = all
+dropped-held s sent held all (taken not_request o) is = absurd is
+dropped-held s sent held all (taken reply o) is = absurd is
+dropped-held s sent held all (taken (notification method params) o) is = absurd is
+dropped-held s sent held all (taken (request id method params) o) is = absurd is
+dropped-held s sent held all refused is = all
+
+-- the message of a turn is what was sent, or is dropped
+turn-held : (s : Serving) (sent held : Sent) → AreHeld s sent held → (m : Message) → TellsTexts m
+    → (t : Turn) → ((o : Oracle) × (t ≡ taken m o)) ⊎ IsDropped t
+    → AreHeld (after s t) (sent_after in_bytes s sent m) (sent_after in_units s held m)
+turn-held s sent held all m texts t (inl is) =
+    subst (λ t. AreHeld (after s t) (sent_after in_bytes s sent m) (sent_after in_units s held m))
+    (sym is.1) (message-held is.0 s sent held all m texts)
+turn-held s sent held all m texts t (inr is) =
+    dropped-held s (sent_after in_bytes s sent m) (sent_after in_units s held m)
+    (sent-held s sent held all m texts) t is
+
 all-held : (s : Serving) (sent held : Sent) → AreHeld s sent held → (arrived : List Arrived)
-    → AllByRecursion (λ (a : Arrived). TellsTexts a.0) arrived
+    → AllByRecursion HasArrived arrived → AllByRecursion (λ (a : Arrived). TellsTexts a.0) arrived
     → AreHeld (after_all s arrived) (sent_in_all in_bytes s sent arrived)
     (sent_in_all in_units s held arrived)
 unfolding after_all sent_in_all
-all-held s sent held all [] texts = all
-all-held s sent held all (a ∷ more) texts =
-    all-held (arrives s a) (sent_after in_bytes s sent a.0) (sent_after in_units s held a.0)
-    (message-held (record { refusals = []; found = a.1 }) s sent held all a.0 texts.0) more texts.1
+all-held s sent held all [] came texts = all
+all-held s sent held all (a ∷ more) came texts =
+    all-held (after s a.1) (sent_after in_bytes s sent a.0) (sent_after in_units s held a.0)
+    (turn-held s sent held all a.0 texts.0 a.1 came.0) more came.1 texts.1
 
 -- what is held of a text that is sent
 of-sent : (stage : Stage) (e : Encoding) (sent held : Sent) (name text : List ℕ)
@@ -184,10 +228,10 @@ of-sent Down e sent held name text all is =
     sym (held-units e (sent name) (held name) (all name)) ∙ ap (option_map (units e)) is
 
 pub editors_stay_in_sync : EditorsStayInSync
-editors_stay_in_sync w root rooted version arrived texts name d found kept =
+editors_stay_in_sync w root rooted version arrived came texts name d found kept =
     let s = fresh_server w root rooted version in
     let after = after_all s arrived in
     of-sent after.stage after.client.encoding (sent_in_all in_bytes s nothing_sent arrived)
     (sent_in_all in_units s nothing_sent arrived) name (text_of_file after.work.world.files name)
-    (all-held s nothing_sent nothing_sent (λ n. (refl, refl)) arrived texts)
-    (documents_stay_in_sync w root rooted version arrived name d found kept)
+    (all-held s nothing_sent nothing_sent (λ n. (refl, refl)) arrived came texts)
+    (documents_stay_in_sync w root rooted version arrived came name d found kept)

@@ -7,6 +7,7 @@ use Rattle.cb_wire.specs.declared.message.Message.{Message as CodeMessage}
 use Rattle.cb_wire.specs.declared.message.Message.TheVariants.{NotRequest, Notification, Reply}
 use Rattle.cb_wire.specs.declared.message.Message.TheVariants.{Request}
 use Rattle.cb_wire.specs.Messages.{IsNotification, IsRequest, Judges, JudgesId, JudgesMethod}
+use Rattle.cb_wire.specs.Messages.{plain_id}
 use Rattle.cb_lsp.specs.Messages.{not_request, notification, reply, request}
 use Rattle.cb_lsp.specs.Models.{message_in}
 use Rattle.cb_lsp.specs.steps.Values.{seen}
@@ -24,9 +25,10 @@ notified method params NotRequest p = absurd p
 notified method params Reply p = absurd p
 
 requested : (i : Json) (method : List ℕ) (params : Option Json) (msg : CodeMessage)
-    → IsRequest i method params msg → message_in msg ≡ request i method params
+    → IsRequest i method params msg → message_in msg ≡ request (plain_id i) method params
 requested i method params (Request id call) p =
-    ap (λ j. request j call.method.now (seen call.params)) p.0 ∙ ap₂ (request i) p.1.0 p.1.1
+    ap (λ j. request j call.method.now (seen call.params)) p.0
+    ∙ ap₂ (request (plain_id i)) p.1.0 p.1.1
 requested i method params (Notification call) p = absurd p
 requested i method params NotRequest p = absurd p
 requested i method params Reply p = absurd p

@@ -3,7 +3,7 @@ use Rattle.std.proofs.Common.{◌≡◌, ◌∙◌, refl, List, ℕ, ◌&&◌, B
 use Rattle.std.proofs.Common.{Option, None, Some}
 use Rattle.json.specs.Find.{get}
 use Rattle.json.specs.Json.{Json, Items, no_items, item}
-use Rattle.cb_tags.specs.Names.{is_file_name}
+use Rattle.cb_lsp.specs.Names.{is_document_name}
 use Rattle.cb_wire.specs.Uris.{escaped, name_below, path_of}
 use Rattle.cb_lsp.specs.declared.notice.FileEvent.{FileEvent}
 use Rattle.cb_lsp.specs.declared.notice.FileEvent.TheVariants.{Written, Gone}
@@ -11,7 +11,8 @@ use Rattle.cb_lsp.specs.declared.notice.Notice.{Notice}
 use Rattle.cb_lsp.specs.declared.notice.Notice.TheVariants.{Ready, Open, Change, Save, Close}
 use Rattle.cb_lsp.specs.declared.notice.Notice.TheVariants.{Files}
 use Rattle.cb_lsp.specs.Documents.{Oracle, behind_event, first_found, first_refusal, later}
-use Rattle.cb_lsp.specs.Messages.{Serving, all_happened, bad_name, ends_as_c, happened, happened_as}
+use Rattle.cb_lsp.specs.Messages.{Serving, all_happened, bad_name, dropped, ends_as_c, happened}
+use Rattle.cb_lsp.specs.Messages.{happened_as}
 use Rattle.cb_lsp.specs.Messages.{happened_at, happened_in, happened_to, is_opening, moved}
 use Rattle.cb_lsp.specs.Messages.{read_behind}
 use Rattle.cb_lsp.specs.Messages.{noticed_as, noticed_if, noticed_of, noticed_on}
@@ -38,7 +39,7 @@ to-keeps : (kind : FileEvent) (o : Oracle) (s : Serving) (uri : Option (List ℕ
     → Keeps s (happened_to kind o s uri).server
 to-keeps kind o s None = as-is s
 to-keeps kind o s (Some uri) =
-    elim (first_refusal o.refusals) as (λ b. Keeps s (cond b (unread s uri)
+    elim (first_refusal o.refusals) as (λ b. Keeps s (cond b (replies s (unread uri))
     (happened_at kind (later o) s (path_of uri))).server)
     [ true ↦ as-is s | false ↦ at-keeps kind (later o) s (path_of uri) ]
 
@@ -71,7 +72,7 @@ module _ (notice : Notice) (o : Oracle) (s : Serving) (params : Option Json) whe
   on-keeps None = as-is s
   on-keeps (Some path) =
       let name = name_below s.client.root.path path in
-      elim (is_file_name name) as (λ b. Keeps s
+      elim (is_document_name name) as (λ b. Keeps s
       (cond b (moved s name (read_behind notice (first_found o.found) s.work path name)
       (told_of s.client.encoding notice o s.work params name))
       (bad_name s notice path)).server) [
@@ -85,9 +86,9 @@ of-keeps : (notice : Notice) (o : Oracle) (s : Serving) (params : Option Json)
     (uri : Option (List ℕ)) → Keeps s (noticed_of notice o s params uri).server
 of-keeps notice o s params None = as-is s
 of-keeps notice o s params (Some uri) =
-    elim (first_refusal o.refusals) as (λ b. Keeps s (cond b (unread s uri)
+    elim (first_refusal o.refusals) as (λ b. Keeps s (cond b (dropped s (unread uri))
     (noticed_on notice (later o) s params (path_of uri))).server)
-    [ true ↦ as-is s | false ↦ on-keeps notice (later o) s params (path_of uri) ]
+    [ true ↦ record { stage = refl; client = refl } | false ↦ on-keeps notice (later o) s params (path_of uri) ]
 
 as-keeps : (notice : Notice) (o : Oracle) (s : Serving) (params : Option Json)
     → Keeps s (noticed_as notice o s params).server

@@ -7,6 +7,7 @@ pub mod Completed
 pub mod DefKinds
 pub mod DocumentPlaces
 pub mod EditGroups
+pub mod Dropped
 pub mod Editors
 pub mod Events
 pub mod Exact

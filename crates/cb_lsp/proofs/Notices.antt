@@ -6,7 +6,7 @@ use Rattle.std.specs.List.{AllByRecursion}
 use Rattle.std.specs.Option.{option_map}
 use Rattle.json.specs.Find.{get}
 use Rattle.json.specs.Json.{Json}
-use Rattle.cb_tags.specs.Names.{is_file_name}
+use Rattle.cb_lsp.specs.Names.{is_document_name}
 use Rattle.cb_wire.specs.Uris.{escaped, name_below, path_of}
 use Rattle.cb_lsp.specs.declared.notice.Notice.{Notice}
 use Rattle.cb_lsp.specs.declared.notice.FileEvent.{FileEvent}
@@ -17,7 +17,7 @@ use Rattle.cb_desk.specs.World.{World, WorldBounds}
 use Rattle.cb_lsp.specs.Bodies.{DoesBy, written_text}
 use Rattle.cb_lsp.specs.Documents.{Looked, Oracle, Reading, Work, first_found, given_found}
 use Rattle.cb_lsp.specs.Documents.{is_renewed, looked_at, most_read, renewed}
-use Rattle.cb_lsp.specs.Messages.{Serving, ends_as_c, happened, happened_at, is_opening}
+use Rattle.cb_lsp.specs.Messages.{Serving, dropped, ends_as_c, happened, happened_at, is_opening}
 use Rattle.cb_lsp.specs.Messages.{may_enter, moved, read_behind, read_renewed}
 use Rattle.cb_lsp.specs.Messages.{noticed_at, noticed_of, registers, replies, show_if, show_of}
 use Rattle.cb_lsp.specs.Messages.{stays, told_of}
@@ -50,7 +50,7 @@ happened-to kind m f s event uri path is named found = rw (← is, ← named, �
 pub happened-unread : (kind : FileEvent) (m : Bool) (f : Reading) (s : Serving) (event : Json)
     (uri : List ℕ)
     → Some kind ≡ event_of event → Some uri ≡ text_in (get (codes "uri") event)
-    → unread s uri ≡ happened (one_event true m f) s event
+    → replies s (unread uri) ≡ happened (one_event true m f) s event
 happened-unread kind m f s event uri is named = rw (← is, ← named)
 
 -- ---- documents
@@ -74,7 +74,7 @@ noticed-nowhere n s params uri named none = rw (← named, ← none)
 
 pub noticed-unread : (n : Notice) (s : Serving) (params : Option Json) (uri : List ℕ)
     → Some uri ≡ uri_in params
-    → unread s uri ≡ noticed_of n (behind true quiet) s params (uri_in params)
+    → dropped s (unread uri) ≡ noticed_of n (behind true quiet) s params (uri_in params)
 noticed-unread n s params uri named = rw (← named)
 
 -- nothing is read where a client is asked for events
@@ -85,7 +85,7 @@ nothing-asked s false = refl
 -- ---- a path
 
 pub noticed-name : (n : Notice) (o : Oracle) (s : Serving) (params : Option Json)
-    (path name : List ℕ) → name ≡ name_below s.client.root.path path → is_file_name name ≡ true
+    (path name : List ℕ) → name ≡ name_below s.client.root.path path → is_document_name name ≡ true
     → moved s name (read_behind n (first_found o.found) s.work path name)
     (told_of s.client.encoding n o s.work params name) ≡ noticed_at n o s params path
 noticed-name n o s params path name is good = rw (← is, good)
@@ -94,7 +94,7 @@ noticed-name n o s params path name is good = rw (← is, good)
 pub noticed-told : {A E : Type 0} (finds : Looked → Type 0) (n : Notice) (o : Oracle) (held s : Serving)
     (params : Option Json) (path name : List ℕ) (work : Work) (told : Option (List ℕ))
     (old new : Writer) (r : Result A E) → held ≡ s
-    → name ≡ name_below held.client.root.path path → is_file_name name ≡ true
+    → name ≡ name_below held.client.root.path path → is_document_name name ≡ true
     → record { work = work; told = told } ≡ told_of held.client.encoding n o held.work params name
     → Puts old new r (written_text (show_if name told))
     → AllByRecursion finds (read_behind n (first_found o.found) held.work path name)
@@ -152,12 +152,12 @@ pub noticed-none : (n : Notice) (s : Serving) (params : Option Json) → None �
 noticed-none n s params none = rw (← none)
 
 pub noticed-bad : (n : Notice) (s : Serving) (params : Option Json) (path name : List ℕ)
-    → name ≡ name_below s.client.root.path path → is_file_name name ≡ false
+    → name ≡ name_below s.client.root.path path → is_document_name name ≡ false
     → (ends_as_c path && is_opening n) ≡ true
     → replies s (show_of (escaped path) (codes "bad name")) ≡ noticed_at n quiet s params path
 noticed-bad n s params path name is bad opens = rw (← is, bad, opens)
 
 pub noticed-quiet : (n : Notice) (s : Serving) (params : Option Json) (path name : List ℕ)
-    → name ≡ name_below s.client.root.path path → is_file_name name ≡ false
+    → name ≡ name_below s.client.root.path path → is_document_name name ≡ false
     → (ends_as_c path && is_opening n) ≡ false → stays s ≡ noticed_at n quiet s params path
 noticed-quiet n s params path name is bad quiet = rw (← is, bad, quiet)

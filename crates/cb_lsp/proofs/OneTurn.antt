@@ -141,15 +141,6 @@ is-unread f s left BadHeader r = r
 is-unread f s left InputEnded r = r
 is-unread f s left Read r = r
 
--- what was written is all that a turn does
-pub told : (finds : Looked → Type 0) (t : Turn) (s : Serving) (old new : Writer)
-    (r : Result (Unit {0}) WriteFault) → is_last t ≡ false → s ≡ (outcome s t).server
-    → (outcome s t).read ≡ [] → Puts old new r (written_text (outcome s t).written)
-    → Takes finds t s s old new (going_on r)
-told finds t s old new (Ok u) is same none put =
-    (((same, put), subst (AllByRecursion finds) (sym none) tt), sym is)
-told finds t s old new (Err e) is same none put = (((tt, put), tt), tt)
-
 -- a run ends with nothing done
 pub ends-so : (finds : Looked → Type 0) (f : First) (s : Serving) (left : Reader) (out : Writer)
     (how stated : Ending) → how ≡ stated → IsEnd f s left stated

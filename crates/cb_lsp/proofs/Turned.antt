@@ -26,13 +26,3 @@ pub takes-fault : (finds : Looked → Type 0) (P : Message → Type 0) (m : Mess
     → PutsPrefix old new (written_text (does o s m).written)
     → TakesBody finds P s next old new (Err e)
 takes-fault finds P m o s next old new e p put = (taken m o, p, (((tt, put), tt), tt))
-
--- what was written is all that a turn does
-pub goes-on : (finds : Looked → Type 0) (P : Message → Type 0) (t : Turn) (s next : Serving)
-    (old new : Writer) (r : Result (Unit {0}) WriteFault) → IsOf P t → is_last t ≡ false
-    → next ≡ (outcome s t).server → (outcome s t).read ≡ []
-    → Puts old new r (written_text (outcome s t).written)
-    → TakesBody finds P s next old new (going_on r)
-goes-on finds P t s next old new (Ok u) p is same none put =
-    (t, p, (((same, put), subst (AllByRecursion finds) (sym none) tt), sym is))
-goes-on finds P t s next old new (Err e) p is same none put = (t, p, (((tt, put), tt), tt))

@@ -20,8 +20,9 @@ use Rattle.cb_lsp.specs.Clients.{Client}
 use Rattle.cb_lsp.specs.Documents.{Document, Looked, Oracle, Reading, Work, behind_reading, is_open}
 use Rattle.cb_lsp.specs.Documents.{looked_at}
 use Rattle.cb_lsp.specs.Renames.{Check, Unrenamed, all_edits, behind_file, check, check_more}
-use Rattle.cb_lsp.specs.Renames.{check_open, check_read, checks, files_of, no_memory, ok_unless}
-use Rattle.cb_lsp.specs.Renames.{renamed_if, then_check, unless_found}
+use Rattle.cb_lsp.specs.Renames.{check_open, check_read, checks, files_of, ok_unless}
+use Rattle.cb_lsp.specs.Renames.{not_open, renamed_if, then_check}
+use Rattle.cb_lsp.specs.Names.{is_outside}
 use Rattle.cb_lsp.specs.declared.rename.Unedited.{Unedited}
 use Rattle.cb_lsp.specs.steps.References.{UsesAreByPlace}
 use Rattle.cb_lsp.specs.steps.Renames.{ComesTo, behind_if, check_if, checks_of_uses, is_last_of}
@@ -86,16 +87,21 @@ decided opens is_open no_path found more =
       found = found ∷ more.found;
     }) else more
 
+-- a file outside the root
+abbrev stays_outside : List ℕ → Check
+stays_outside file = record { why = Some (not_open file); read = [] }
+
 decided-here : (opens n : Bool) (f : Reading) (more : Oracle) (c : Client) (w : Work)
     (file : List ℕ) → check_if opens (decided opens (is_open w.documents file) n f more) c w file
     ≡ check_if opens (one_change n f) c w file
 decided-here false n f more c w file = refl
 decided-here true n f more c w file =
     let path = path_below c.root.path file in
-    elim (is_open w.documents file) as (λ b.
+    ap (λ k. if is_outside file then stays_outside file else k)
+    (elim (is_open w.documents file) as (λ b.
     (if b then check_open w.documents file else check_read (decided true b n f more) w.world path file)
     ≡ (if b then check_open w.documents file else check_read (one_change n f) w.world path file))
-    [ true ↦ refl | false ↦ refl ]
+    [ true ↦ refl | false ↦ refl ])
 
 decided-behind : (opens n : Bool) (f : Reading) (more : Oracle) (ds : List Document)
     (file : List ℕ) → behind_if opens ds file (decided opens (is_open ds file) n f more) ≡ more
@@ -200,32 +206,38 @@ so-ends finds c w start left opens so_far order none =
 
 -- ---- one file
 
-pub check-open : (finds : Looked → Type 0) (o : Oracle) (c : Client) (w : Work) (file : List ℕ)
-    (result : Option Unedited) → is_open w.documents file ≡ true
-    → option_map reason_of result ≡ (check_open w.documents file).why
-    → ComesTo finds (check o c w file) result
-check-open finds o c w file result is said =
-    subst (λ b. ComesTo finds (if b then check_open w.documents file
-    else check_read o w.world (path_below c.root.path file) file) result) (sym is) (said, tt)
+pub check-outside : (finds : Looked → Type 0) (o : Oracle) (c : Client) (w : Work)
+    (file : List ℕ) (result : Option Unedited) → is_outside file ≡ true
+    → option_map reason_of result ≡ Some (not_open file) → ComesTo finds (check o c w file) result
+check-outside finds o c w file result out said =
+    subst (λ b. ComesTo finds (if b then stays_outside file else (if is_open w.documents file
+    then check_open w.documents file
+    else check_read o w.world (path_below c.root.path file) file)) result) (sym out) (said, tt)
 
-pub check-refused : (finds : Looked → Type 0) (f : Reading) (c : Client) (w : Work)
-    (file : List ℕ) (result : Option Unedited) → is_open w.documents file ≡ false
-    → option_map reason_of result ≡ Some no_memory
-    → ComesTo finds (check (one_change true f) c w file) result
-check-refused finds f c w file result is said =
-    subst (λ b. ComesTo finds (if b then check_open w.documents file
-    else check_read (one_change true f) w.world (path_below c.root.path file) file) result)
-    (sym is) (said, tt)
+-- a file below the root
+module _ (finds : Looked → Type 0) (o : Oracle) (c : Client) (w : Work) (file : List ℕ)
+    (result : Option Unedited) (inside : is_outside file ≡ false)
+  where
+    abbrev Comes : Check → Type 0
+    Comes k = ComesTo finds k result
 
-pub check-found : (finds : Looked → Type 0) (f : Reading) (c : Client) (w : Work)
-    (file : List ℕ) (result : Option Unedited) → is_open w.documents file ≡ false
-    → option_map reason_of result ≡ unless_found file (text_of_file w.world.files file) f
-    → finds (looked_at w.world (path_below c.root.path file) f)
-    → ComesTo finds (check (one_change false f) c w file) result
-check-found finds f c w file result is said found =
-    subst (λ b. ComesTo finds (if b then check_open w.documents file
-    else check_read (one_change false f) w.world (path_below c.root.path file) file) result)
-    (sym is) (said, (found, tt))
+    pub check-open : is_open w.documents file ≡ true
+        → option_map reason_of result ≡ (check_open w.documents file).why → Comes (check o c w file)
+    check-open is said =
+        subst (λ b. Comes (if b then stays_outside file else (if is_open w.documents file
+        then check_open w.documents file else check_read o w.world (path_below c.root.path file) file)))
+        (sym inside)
+        (subst (λ b. Comes (if b then check_open w.documents file
+        else check_read o w.world (path_below c.root.path file) file)) (sym is) (said, tt))
+
+    pub check-again : is_open w.documents file ≡ false
+        → Comes (check_read o w.world (path_below c.root.path file) file) → Comes (check o c w file)
+    check-again is comes =
+        subst (λ b. Comes (if b then stays_outside file else (if is_open w.documents file
+        then check_open w.documents file else check_read o w.world (path_below c.root.path file) file)))
+        (sym inside)
+        (subst (λ b. Comes (if b then check_open w.documents file
+        else check_read o w.world (path_below c.root.path file) file)) (sym is) comes)
 
 -- ---- the reply
 

@@ -20,7 +20,7 @@ use Rattle.cb_wire.specs.Values.{items_of}
 use Rattle.cb_wire.specs.declared.list.TheConstants.{MOST_ELEMENTS}
 use Rattle.cb_lsp.specs.Calls.{callables, incoming_calls, item_of}
 use Rattle.cb_lsp.specs.Clients.{Client}
-use Rattle.cb_lsp.specs.Completions.{completing, completions_of, word_before}
+use Rattle.cb_lsp.specs.Completions.{completions_before, word_before}
 use Rattle.cb_lsp.specs.Documents.{Looked, Oracle, Work}
 use Rattle.cb_lsp.specs.Folds.{folds_in}
 use Rattle.cb_lsp.specs.Headers.{header_at, header_files}
@@ -125,7 +125,7 @@ answer_in c w name text (References p declarations) =
 answer_in c w name text (Callables p) =
     callables_at c w name text (word_at text (place c.encoding text p))
 answer_in c w name text (Completions p) =
-    completions_of (completing w (word_before text (place c.encoding text p)))
+    completions_before w (word_before text (place c.encoding text p))
 answer_in c w name text (PrepareRename p) =
     prepared c text (renamable_at w text (place c.encoding text p))
 

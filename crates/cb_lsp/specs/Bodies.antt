@@ -7,13 +7,14 @@ use Rattle.json.specs.Json.{Json, document, null, boolean, number, string, array
 use Rattle.cb_tags.specs.declared.sink.WriteFault.{WriteFault}
 use Rattle.cb_tags.specs.Writers.{Writer}
 use Rattle.cb_tags.specs.Writing.{Puts}
-use Rattle.cb_wire.specs.Messages.{IsId, has, text_of}
+use Rattle.cb_wire.specs.Messages.{IsId, has, plain_id, text_of}
+use Rattle.cb_wire.specs.Surrogates.{with_whole_pairs}
 use Rattle.cb_wire.specs.Texts.{frame}
 use Rattle.cb_wire.specs.Values.{value_text}
 use Rattle.cb_lsp.specs.Answers.{Replied}
 use Rattle.cb_lsp.specs.Documents.{Looked, Oracle}
-use Rattle.cb_lsp.specs.Messages.{Message, Outcome, Serving, does, is_exit, log_of, not_json}
-use Rattle.cb_lsp.specs.Messages.{not_request, notification, out_of_memory, replies, reply}
+use Rattle.cb_lsp.specs.Messages.{Message, Outcome, Serving, does, dropped, is_exit, log_of}
+use Rattle.cb_lsp.specs.Messages.{not_json, not_request, notification, out_of_memory, reply}
 use Rattle.cb_lsp.specs.Messages.{request}
 
 -- ---- messages
@@ -22,7 +23,7 @@ use Rattle.cb_lsp.specs.Messages.{request}
 abbrev pub IsById : Option Json → (method : List ℕ) → Option Json → Message → Type 0
 IsById None method params m = m ≡ notification method params
 IsById (Some id) method params m =
-    (IsId id → m ≡ request id method params) × ((IsId id → ⊥) → m ≡ not_request)
+    (IsId id → m ≡ request (plain_id id) method params) × ((IsId id → ⊥) → m ≡ not_request)
 
 abbrev pub IsByMethod : Option Json → Json → Message → Type 0
 IsByMethod None j m =
@@ -40,9 +41,19 @@ abbrev pub IsValue : Option Json → Message → Type 0
 IsValue None m = m ≡ not_json
 IsValue (Some j) m = IsByMethod (get (codes "method") j) j m
 
+-- what a text is as JSON, or else another one
+abbrev pub or_else : Option Json → Option Json → Option Json
+or_else None other = other
+or_else (Some j) other = Some j
+
+-- the value of a body: where it is no JSON, it is read with U+FFFD for each half of a surrogate pair
+-- that stands alone
+abbrev pub value_of : List ℕ → Option Json
+value_of body = or_else (document (text_of body)) (document (text_of (with_whole_pairs body)))
+
 -- the message of a body
 abbrev pub IsMessage : List ℕ → Message → Type 0
-IsMessage text m = IsValue (document (text_of text)) m
+IsMessage body m = IsValue (value_of body) m
 
 -- ---- turns
 
@@ -60,7 +71,7 @@ is_last refused = false
 -- what a turn does
 abbrev pub outcome : Serving → Turn → Outcome
 outcome s (taken m o) = does o s m
-outcome s refused = replies s (log_of out_of_memory)
+outcome s refused = dropped s (log_of out_of_memory)
 
 -- a server after it
 abbrev pub after : Serving → Turn → Serving

@@ -1,5 +1,5 @@
 -- The names that complete a word.
-use Rattle.std.specs.Prelude.{ℕ, ◌-◌, not, nat_eq, nat_lt, List, [], ◌∷◌, filter, length}
+use Rattle.std.specs.Prelude.{ℕ, ◌-◌, true, not, nat_eq, nat_lt, List, [], ◌∷◌, filter, length}
 use Rattle.std.specs.Prelude.{map, take, drop}
 use Rattle.std.specs.List.{starts_with, suffix_len}
 use Rattle.std.specs.Str.{bytes_eq}
@@ -27,11 +27,9 @@ abbrev pub first_of_each : List Tag → List Tag
 first_of_each [] = []
 first_of_each (t ∷ ts) = t ∷ filter (λ (u : Tag). not (bytes_eq u.name t.name)) (first_of_each ts)
 
--- the names that complete a word, each with its first definition, in the order of their bytes; the
--- empty word has none
+-- the names that complete a word, each with its first definition, in the order of their bytes
 abbrev pub completing : World → (word : List ℕ) → List Tag
-completing w [] = []
-completing w (b ∷ bs) = first_of_each (begin_with (b ∷ bs) (tags_by_name w.profile w.files))
+completing w word = first_of_each (begin_with word (tags_by_name w.profile w.files))
 
 -- the number of a kind (`CompletionItemKind`): Function, Constant, Class, Struct, Enum, EnumMember,
 -- Field, Variable
@@ -57,3 +55,8 @@ abbrev pub completions_of : List Tag → Json
 completions_of ts =
     completion_list (nat_lt MOST_COMPLETIONS (length ts))
     (map completion_of (take MOST_COMPLETIONS ts))
+
+-- what completes a word. The empty word is completed by no name yet, and more of it may be typed
+abbrev pub completions_before : World → (word : List ℕ) → Json
+completions_before w [] = completion_list true []
+completions_before w (b ∷ bs) = completions_of (completing w (b ∷ bs))

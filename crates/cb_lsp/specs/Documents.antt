@@ -1,7 +1,7 @@
 -- The files of a server and the documents that the editor has open, and what the editor tells of
 -- them.
 use Rattle.std.specs.Prelude.{ℕ, Bool, true, false, not, ◌&&◌, ◌||◌, ◌+◌, List, [], ◌∷◌}
-use Rattle.std.specs.Prelude.{codes, Option, None, Some, Result, Ok, Err, if◌then◌else◌}
+use Rattle.std.specs.Prelude.{codes, map, Option, None, Some, Result, Ok, Err, if◌then◌else◌}
 use Rattle.std.specs.List.{list_any}
 use Rattle.std.specs.Str.{bytes_eq}
 use Rattle.cb_desk.specs.declared.change.Refusal.{Refusal}
@@ -177,6 +177,13 @@ lost w d why = record {
   work = record w { documents = with_document (record d { lost = true }) w.documents };
   told = told_unless d.lost why;
 }
+
+-- every document is lost: a message that was dropped may have been a change of any of them
+abbrev pub as_lost : Document → Document
+as_lost d = record d { lost = true }
+
+abbrev pub lost_all : List Document → List Document
+lost_all ds = map as_lost ds
 
 -- what is kept of a document whose file has this text, when the file is given another one
 abbrev pub kept_from : List ℕ → Kept → Kept

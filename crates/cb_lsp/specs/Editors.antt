@@ -13,7 +13,7 @@ use Rattle.cb_lsp.specs.declared.notice.Notice.{Notice}
 use Rattle.cb_lsp.specs.declared.notice.Notice.TheVariants.{Open, Change}
 use Rattle.cb_lsp.specs.Messages.{Message, fresh_server, notice_of, notification}
 use Rattle.cb_lsp.specs.Params.{changes_in, document_text}
-use Rattle.cb_lsp.specs.Sync.{Arrived, Holding, StayInSync, text_through}
+use Rattle.cb_lsp.specs.Sync.{Arrived, HasArrived, Holding, StayInSync, text_through}
 
 -- ---- changes
 
@@ -59,9 +59,10 @@ abbrev pub TellsTexts : Message → Type 0
 TellsTexts (notification method params) = HasTexts (notice_of method) params
 TellsTexts _ = Unit {0}
 
--- after any messages with such texts, whatever is found, the units of the documents of a server are
+-- after any messages with such texts, whatever is found, refused or dropped, the units of the documents of a server are
 -- those that its editor has
 abbrev pub EditorsStayInSync : Type 0
 EditorsStayInSync = (w : World) (root : Below) (rooted : Bool) (version : List ℕ)
-    (arrived : List Arrived) → AllByRecursion (λ (a : Arrived). TellsTexts a.0) arrived
+    (arrived : List Arrived) → AllByRecursion HasArrived arrived
+    → AllByRecursion (λ (a : Arrived). TellsTexts a.0) arrived
     → StayInSync in_units (fresh_server w root rooted version) arrived

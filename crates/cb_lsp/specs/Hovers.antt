@@ -5,14 +5,21 @@ use Rattle.cb_desk.specs.Answer.{unindented}
 use Rattle.cb_tags.specs.TagLines.{Tag}
 use Rattle.cb_wire.specs.declared.position.Range.{Range}
 use Rattle.cb_wire.specs.Lists.{joined}
+use Rattle.cb_wire.specs.declared.units.Encoding.TheVariants.{Utf16}
 use Rattle.cb_wire.specs.Texts.{readable}
+use Rattle.cb_wire.specs.Units.{column, place_in_line}
 use Rattle.cb_wire.specs.Values.{range_tree}
 use Rattle.cb_lsp.specs.declared.hover.TheConstants.{MOST_HOVERS}
+
+-- at most 400 bytes of a line, up to the end of a character
+abbrev pub cut_line : List ℕ → List ℕ
+cut_line line = take (place_in_line Utf16 line (column Utf16 line 400)) line
 
 -- a definition: its file and its line, and the text of that line without blanks before it
 abbrev pub hover_text : Tag → List ℕ
 hover_text t =
-    readable t.file ++ codes ":" ++ decimal t.line ++ codes "\n" ++ readable (unindented t.text)
+    readable t.file ++ codes ":" ++ decimal t.line ++ codes "\n"
+    ++ readable (cut_line (unindented t.text))
 
 -- the first definitions, with an empty line between two
 abbrev pub hover_texts : List Tag → List ℕ

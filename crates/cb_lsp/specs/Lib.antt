@@ -1,3 +1,4 @@
+pub mod Alike
 pub mod Answers
 pub mod Bodies
 pub mod CallExamples
@@ -21,6 +22,7 @@ pub mod Meaning
 pub mod MeaningExamples
 pub mod Messages
 pub mod Models
+pub mod Names
 pub mod Outgoing
 pub mod Params
 pub mod PlaceExamples

@@ -153,12 +153,12 @@ work = record {
   documents = documents;
 }
 
--- these are found, without a refusal of memory, and one is refused at the second file
+-- these are found, without a refusal of memory, and one is refused at the first file
 abbrev finding : (first second : Reading) → Oracle
 finding first second = record { refusals = []; found = first ∷ second ∷ [] }
 
 abbrev refusing : Oracle
-refusing = record { refusals = false ∷ true ∷ []; found = holds (codes "1") ∷ [] }
+refusing = record { refusals = true ∷ []; found = holds (codes "1") ∷ [] }
 
 abbrev open_and_closed : List (List ℕ)
 open_and_closed = codes "a.c" ∷ codes "c.c" ∷ codes "d.c" ∷ []
@@ -173,20 +173,25 @@ client = record {
 abbrev found_at : (path : List ℕ) → Reading → Looked
 found_at path found = record { path = path; most = 1000001; found = found }
 
--- what is not open is read, and edited where it is found as it is
-pub all_are_edited : checks (finding (holds (codes "1")) (holds (codes "22"))) client work
-    open_and_closed ≡ record {
-      why = None;
-      read = found_at (codes "/w/c.c") (holds (codes "1"))
-          ∷ found_at (codes "/w/d.c") (holds (codes "22")) ∷ [];
+-- what is open is edited, and what is not is read
+pub one_is_open : checks (finding gone gone) client work (codes "a.c" ∷ [])
+    ≡ record { why = None; read = [] }
+unfolding document_of checks
+one_is_open = refl
+
+pub one_was_changed : checks (finding (holds (codes "2")) gone) client work open_and_closed
+    ≡ record {
+      why = Some (not_open (codes "c.c"));
+      read = found_at (codes "/w/c.c") (holds (codes "2")) ∷ [];
     }
 unfolding document_of checks text_of_file
-all_are_edited = refl
-
-pub one_was_changed : (checks (finding (holds (codes "1")) (holds (codes "2"))) client work
-    open_and_closed).why ≡ Some (not_open (codes "d.c"))
-unfolding document_of checks text_of_file
 one_was_changed = refl
+
+-- nothing outside the root is edited, and it is not looked at
+pub one_is_outside : checks (finding gone gone) client work (codes "/v/e.c" ∷ open_and_closed)
+    ≡ record { why = Some (not_open (codes "/v/e.c")); read = [] }
+unfolding checks
+one_is_outside = refl
 
 -- nothing is read behind a file that is not edited
 pub one_is_gone : checks (finding gone (holds (codes "22"))) client work open_and_closed ≡ record {
@@ -196,8 +201,8 @@ pub one_is_gone : checks (finding gone (holds (codes "22"))) client work open_an
 unfolding document_of checks text_of_file
 one_is_gone = refl
 
-pub no_room_for_its_bytes : (checks (finding (holds (codes "1")) no_room) client work
-    open_and_closed).why ≡ Some no_memory
+pub no_room_for_its_bytes : (checks (finding no_room gone) client work open_and_closed).why
+    ≡ Some no_memory
 unfolding document_of checks text_of_file
 no_room_for_its_bytes = refl
 

@@ -1,12 +1,11 @@
 -- What a message does to a server, and what is written.
 use Rattle.std.specs.Prelude.{ℕ, Bool, true, false, not, ◌&&◌, ◌||◌, ◌++◌, nat_eq, List, [], ◌∷◌}
 use Rattle.std.specs.Prelude.{codes, Option, None, Some, Result, Ok, Err, if◌then◌else◌}
-use Rattle.std.specs.List.{ends_with}
+use Rattle.std.specs.List.{ends_with, flat_map}
 use Rattle.std.specs.Str.{bytes_eq}
 use Rattle.json.specs.Find.{get}
 use Rattle.json.specs.Json.{Json, Items, no_items, item, null}
 use Rattle.cb_desk.specs.World.{World}
-use Rattle.cb_tags.specs.Names.{is_file_name}
 use Rattle.cb_wire.specs.declared.units.Encoding.{Encoding}
 use Rattle.cb_wire.specs.declared.units.Encoding.TheVariants.{Utf8, Utf16}
 use Rattle.cb_wire.specs.declared.reply.ErrorCode.TheVariants.{ServerNotInitialized, InvalidRequest}
@@ -26,7 +25,9 @@ use Rattle.cb_lsp.specs.declared.server.Stage.{Stage}
 use Rattle.cb_lsp.specs.declared.server.Stage.TheVariants.{Fresh, Running, Down}
 use Rattle.cb_lsp.specs.Answers.{Replied, answer_to, reply_with}
 use Rattle.cb_lsp.specs.Clients.{Client}
-use Rattle.cb_lsp.specs.Documents.{Looked, Oracle, Reading, Told, Work, behind_event, changed}
+use Rattle.cb_lsp.specs.Names.{is_document_name}
+use Rattle.cb_lsp.specs.Documents.{Document, Looked, Oracle, Reading, Told, Work, behind_event}
+use Rattle.cb_lsp.specs.Documents.{changed, lost_all, told_unless}
 use Rattle.cb_lsp.specs.Documents.{closed, first_found, first_refusal, is_open, is_renewed, later}
 use Rattle.cb_lsp.specs.Documents.{looked_at, opened, removed, renewed, saved}
 use Rattle.cb_lsp.specs.Params.{changes_in, document_text, event_of, items_in, member_of}
@@ -72,6 +73,10 @@ show_of name text =
     notice_tree (codes "window/showMessage") (codes "2")
     (codes "cbrowse: " ++ (name ++ (codes ": " ++ text)))
 
+-- what the client is told of a document that is lost with all others
+abbrev pub dropped_text : List ℕ
+dropped_text = codes "out of date, a message was dropped: close the file and open it again"
+
 -- a name and what the client is told of its document, if anything
 abbrev pub show_if : List ℕ → Option (List ℕ) → List Json
 show_if name None = []
@@ -87,6 +92,32 @@ out_of_memory_reply id = error_reply id RequestFailed out_of_memory
 abbrev pub result_unless : Bool → (id result : Json) → Json
 result_unless true id j = out_of_memory_reply id
 result_unless false id j = result_reply id j
+
+abbrev pub replies : Serving → Json → Outcome
+replies s message = record { server = s; written = message ∷ []; read = [] }
+
+-- what comes after an outcome
+abbrev pub and_then : Outcome → Outcome → Outcome
+and_then first next = record {
+  server = next.server;
+  written = first.written ++ next.written;
+  read = first.read ++ next.read;
+}
+
+-- a message was dropped, which may have been a change: every document is lost, and each that was
+-- not lost before is named
+abbrev pub named_lost : List Document → List Json
+named_lost ds = flat_map (λ d. show_if d.name (told_unless d.lost dropped_text)) ds
+
+abbrev pub all_lost : Serving → Outcome
+all_lost s = record {
+  server = record s { work = record s.work { documents = lost_all s.work.documents } };
+  written = named_lost s.work.documents;
+  read = [];
+}
+
+abbrev pub dropped : Serving → Json → Outcome
+dropped s message = and_then (replies s message) (all_lost s)
 
 -- ---- requests
 
@@ -131,9 +162,6 @@ client_of s params = record {
   encoding = encoding_for params;
   tree = takes_trees params;
 }
-
-abbrev pub replies : Serving → Json → Outcome
-replies s message = record { server = s; written = message ∷ []; read = [] }
 
 abbrev pub initialized : Bool → Serving → Json → Option Json → Outcome
 initialized true s id params = replies s (out_of_memory_reply id)
@@ -246,7 +274,7 @@ bad_name s notice path =
 abbrev pub noticed_at : Notice → Oracle → Serving → Option Json → List ℕ → Outcome
 noticed_at notice o s params path =
     let name = name_below s.client.root.path path in
-    if is_file_name name
+    if is_document_name name
     then moved s name (read_behind notice (first_found o.found) s.work path name)
     (told_of s.client.encoding notice o s.work params name)
     else bad_name s notice path
@@ -255,21 +283,21 @@ abbrev pub noticed_on : Notice → Oracle → Serving → Option Json → Option
 noticed_on notice o s params None = stays s
 noticed_on notice o s params (Some path) = noticed_at notice o s params path
 
--- memory may be refused to the path of a URI
-abbrev pub unread : Serving → List ℕ → Outcome
-unread s uri = replies s (show_of uri out_of_memory)
+-- memory may be refused to the path of a URI: then the notification is dropped
+abbrev pub unread : List ℕ → Json
+unread uri = show_of uri out_of_memory
 
 abbrev pub noticed_of : Notice → Oracle → Serving → Option Json → Option (List ℕ) → Outcome
 noticed_of notice o s params None = stays s
 noticed_of notice o s params (Some uri) =
-    if first_refusal o.refusals then unread s uri
+    if first_refusal o.refusals then dropped s (unread uri)
     else noticed_on notice (later o) s params (path_of uri)
 
 -- ---- file events
 
 -- a file of a path that goes away, or that was written; one below the root may be taken in
 abbrev pub may_enter : (path name : List ℕ) → Bool
-may_enter path name = is_file_name name && not (bytes_eq name path)
+may_enter path name = is_document_name name && not (bytes_eq name path)
 
 -- the file of a path is read again where it is renewed
 abbrev pub read_renewed : Reading → Work → (may_enter : Bool) → (path name : List ℕ)
@@ -290,7 +318,8 @@ happened_at Written o s (Some path) =
 abbrev pub happened_to : FileEvent → Oracle → Serving → Option (List ℕ) → Outcome
 happened_to event o s None = stays s
 happened_to event o s (Some uri) =
-    if first_refusal o.refusals then unread s uri else happened_at event (later o) s (path_of uri)
+    if first_refusal o.refusals then replies s (unread uri)
+    else happened_at event (later o) s (path_of uri)
 
 -- a file event, if it is one
 abbrev pub happened_as : Option FileEvent → Oracle → Serving → Json → Outcome
@@ -299,14 +328,6 @@ happened_as (Some kind) o s event = happened_to kind o s (text_in (get (codes "u
 
 abbrev pub happened : Oracle → Serving → Json → Outcome
 happened o s event = happened_as (event_of event) o s event
-
--- what comes after an outcome
-abbrev pub and_then : Outcome → Outcome → Outcome
-and_then first next = record {
-  server = next.server;
-  written = first.written ++ next.written;
-  read = first.read ++ next.read;
-}
 
 -- events in turn
 unfoldable pub all_happened : Oracle → Serving → Items → Outcome
@@ -341,10 +362,10 @@ noticed_by Down o s method params = stays s
 
 -- what a message does, as the machine decides
 unfoldable pub does : Oracle → Serving → Message → Outcome
-does o s not_json = replies s (log_of (codes "not JSON"))
+does o s not_json = dropped s (log_of (codes "not JSON"))
 does o s not_request = replies s (log_of (codes "not a request"))
 does o s reply = stays s
-does o s too_large = replies s (log_of (codes "too large"))
+does o s too_large = dropped s (log_of (codes "too large"))
 does o s (notification method params) = noticed_by s.stage o s method params
 does o s (request id method params) = requested s.stage o s id method params
 

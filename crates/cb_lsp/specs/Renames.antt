@@ -24,6 +24,8 @@ use Rattle.cb_lsp.specs.Clients.{Client}
 use Rattle.cb_lsp.specs.Documents.{Document, Looked, Oracle, Reading, Work, behind_reading}
 use Rattle.cb_lsp.specs.Documents.{document_of, first_found, first_refusal, gone, holds, is_open}
 use Rattle.cb_lsp.specs.Documents.{looked_at, no_room, unreadable, was_lost}
+use Rattle.cb_lsp.specs.Alike.{is_counted_alike}
+use Rattle.cb_lsp.specs.Names.{is_outside}
 use Rattle.cb_lsp.specs.Places.{range_of}
 use Rattle.cb_lsp.specs.References.{uses_reached}
 use Rattle.cb_lsp.specs.Words.{word_at}
@@ -127,7 +129,7 @@ unless_found file text gone = Some (not_open file)
 unless_found file text unreadable = Some (not_open file)
 unless_found file text no_room = Some no_memory
 unless_found file text (holds found) =
-    if bytes_eq found text then None else Some (not_open file)
+    if bytes_eq found text && is_counted_alike text then None else Some (not_open file)
 
 -- a file is looked at: why it is not edited, if so, and what was read for that
 pub record Check : Type 0 where
@@ -147,10 +149,12 @@ abbrev pub check_open : List Document → (file : List ℕ) → Check
 check_open ds file =
     record { why = unless_lost (was_lost (document_of ds file)) file; read = [] }
 
+-- a file outside the root is never edited
 abbrev pub check : Oracle → Client → Work → (file : List ℕ) → Check
 check o c w file =
-    if is_open w.documents file then check_open w.documents file
-    else check_read o w.world (path_below c.root.path file) file
+    if is_outside file then record { why = Some (not_open file); read = [] }
+    else (if is_open w.documents file then check_open w.documents file
+    else check_read o w.world (path_below c.root.path file) file)
 
 -- what is decided behind a file, which is read once, unless it is open
 abbrev pub behind_file : List Document → List ℕ → Oracle → Oracle

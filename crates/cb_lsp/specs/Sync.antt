@@ -1,10 +1,12 @@
 -- What a client has of the documents that it opened, and that the server has the same.
-use Rattle.std.specs.Prelude.{◌≡◌, ℕ, Bool, false, List, [], ◌∷◌, Option, None, Some}
+use Rattle.std.specs.Prelude.{◌≡◌, ◌⊎◌, ℕ, Bool, true, false, Contains, List, [], ◌∷◌, Option}
+use Rattle.std.specs.Prelude.{None, Some}
+use Rattle.std.specs.List.{AllByRecursion}
 use Rattle.std.specs.Prelude.{if◌then◌else◌}
 use Rattle.std.specs.Str.{bytes_eq}
 use Rattle.json.specs.Json.{Json}
-use Rattle.cb_tags.specs.Names.{is_file_name}
 use Rattle.cb_wire.specs.Uris.{Below, name_below, path_of}
+use Rattle.cb_lsp.specs.Names.{is_document_name}
 use Rattle.cb_wire.specs.declared.units.Encoding.{Encoding}
 use Rattle.cb_desk.specs.World.{World, text_of_file}
 use Rattle.cb_lsp.specs.Changes.{TextChange, text_with}
@@ -15,9 +17,10 @@ use Rattle.cb_lsp.specs.declared.notice.Notice.TheVariants.{Files}
 use Rattle.cb_lsp.specs.declared.server.Stage.{Stage}
 use Rattle.cb_lsp.specs.declared.server.Stage.TheVariants.{Fresh, Running, Down}
 use Rattle.cb_lsp.specs.Documents.{Document, Reading, Oracle, Told, Work, document_of, removed}
-use Rattle.cb_lsp.specs.Documents.{renewed}
-use Rattle.cb_lsp.specs.Messages.{Message, Serving, does, fresh_server, notice_of, notification}
-use Rattle.cb_lsp.specs.Messages.{request, told_of}
+use Rattle.cb_lsp.specs.Documents.{renewed, was_lost}
+use Rattle.cb_lsp.specs.Messages.{Message, Serving, does, fresh_server, not_json, notice_of}
+use Rattle.cb_lsp.specs.Messages.{notification, request, show_of, told_of, too_large}
+use Rattle.cb_lsp.specs.Bodies.{Turn, after, outcome, refused, taken}
 use Rattle.cb_lsp.specs.Params.{changes_in, document_text, uri_in}
 
 -- what a client has of the document of a name, if that is open
@@ -35,7 +38,7 @@ with_text name text sent other = if bytes_eq name other then text else sent othe
 abbrev pub name_at : (root : List ℕ) → Option (List ℕ) → Option (List ℕ)
 name_at root None = None
 name_at root (Some path) =
-    let name = name_below root path in if is_file_name name then Some name else None
+    let name = name_below root path in if is_document_name name then Some name else None
 
 abbrev pub name_of : (root : List ℕ) → Option (List ℕ) → Option (List ℕ)
 name_of root None = None
@@ -104,32 +107,50 @@ abbrev pub AreInSync : (has : List ℕ → List ℕ) → Work → Sent → Type 
 AreInSync has w sent = (name : List ℕ) (d : Document) → document_of w.documents name ≡ Some d
     → d.lost ≡ false → sent name ≡ Some (has (text_of_file w.world.files name))
 
--- a message, and what is found where files are read again as it is taken
+-- a message that a client sent, and the turn that the server made of it
 abbrev pub Arrived : Type 0
-Arrived = Message × List Reading
+Arrived = Message × Turn
 
--- it is taken, and no memory is refused to it
-abbrev pub arrives : Serving → Arrived → Serving
-arrives s a = (does (record { refusals = []; found = a.1 }) s a.0).server
+-- a body that was dropped: it is not JSON, it is too large, or memory was refused to it
+abbrev pub IsDropped : Turn → Type 0
+IsDropped (taken not_json o) = Unit {0}
+IsDropped (taken too_large o) = Unit {0}
+IsDropped (taken _ o) = ⊥
+IsDropped refused = Unit {0}
 
--- a server, and what its client has, after messages to which no memory was refused
+-- the message was taken, whatever the machine decided; or its body was dropped
+abbrev pub HasArrived : Arrived → Type 0
+HasArrived a = ((o : Oracle) × (a.1 ≡ taken a.0 o)) ⊎ IsDropped a.1
+
+-- a server, and what its client has, after messages; those that were dropped were sent, too
 unfoldable pub after_all : Serving → List Arrived → Serving
 after_all s [] = s
-after_all s (a ∷ more) = after_all (arrives s a) more
+after_all s (a ∷ more) = after_all (after s a.1) more
 
 unfoldable pub sent_in_all : Holding → Serving → Sent → List Arrived → Sent
 sent_in_all h s sent [] = sent
-sent_in_all h s sent (a ∷ more) = sent_in_all h (arrives s a) (sent_after h s sent a.0) more
+sent_in_all h s sent (a ∷ more) = sent_in_all h (after s a.1) (sent_after h s sent a.0) more
 
 -- the documents of a server and of its client are the same after messages
 abbrev pub StayInSync : Holding → Serving → List Arrived → Type 0
 StayInSync h s arrived = let after = after_all s arrived in
     AreInSync (h.has after.client.encoding) after.work (sent_in_all h s nothing_sent arrived)
 
--- they are after any messages, whatever is found
+-- they are after any messages, whatever is found, refused or dropped
 abbrev pub DocumentsStayInSync : Type 0
 DocumentsStayInSync = (w : World) (root : Below) (rooted : Bool) (version : List ℕ)
-    (arrived : List Arrived) → StayInSync in_bytes (fresh_server w root rooted version) arrived
+    (arrived : List Arrived) → AllByRecursion HasArrived arrived
+    → StayInSync in_bytes (fresh_server w root rooted version) arrived
+
+-- a turn that leaves a document lost which was not lost before names it to the client
+abbrev pub IsNamed : List ℕ → List Json → Type 0
+IsNamed name written = (text : List ℕ) × Contains written (show_of name text)
+
+abbrev pub WhatIsLostIsNamed : Type 0
+WhatIsLostIsNamed = (s : Serving) (t : Turn) (name : List ℕ) (d : Document)
+    → document_of (after s t).work.documents name ≡ Some d → d.lost ≡ true
+    → was_lost (document_of s.work.documents name) ≡ false
+    → IsNamed name (outcome s t).written
 
 -- ---- what changes no file
 

@@ -9,6 +9,7 @@ pub mod Noted
 pub mod Outgoing
 pub mod References
 pub mod Renames
+pub mod Told
 pub mod Turns
 pub mod Values
 pub mod Works

@@ -9,7 +9,7 @@ ghost use Rattle.cb_index.specs.steps.Left.{tag_of_spot};
 ghost use Rattle.cb_scan.specs.Profiles.{facts_in};
 ghost use Rattle.cb_scan.specs.lex.Tokens.{bytes_of};
 ghost use Rattle.cb_tags.specs.Writing.{Puts};
-ghost use Rattle.cb_wire.specs.Completions.{completions_front};
+ghost use Rattle.cb_wire.specs.Completions.{completion_list, completions_front};
 ghost use Rattle.cb_wire.specs.Messages.{id_json};
 ghost use Rattle.cb_wire.specs.Positions.{place};
 ghost use Rattle.cb_wire.specs.Texts.{frame};
@@ -20,7 +20,7 @@ ghost use Rattle.cb_lsp.specs.Answers.{answer_in, callables_at, definition_at, h
 ghost use Rattle.cb_lsp.specs.Answers.{hover_at, hover_over, list_of, places_of_word};
 ghost use Rattle.cb_lsp.specs.Answers.{references_of_word, some_of, word_meaning, word_references};
 ghost use Rattle.cb_lsp.specs.Calls.{callables, item_of};
-ghost use Rattle.cb_lsp.specs.Completions.{completing, completions_of};
+ghost use Rattle.cb_lsp.specs.Completions.{completions_before, completions_of};
 ghost use Rattle.cb_lsp.specs.Headers.{folder_of, header_at, header_files};
 ghost use Rattle.cb_lsp.specs.Hovers.{hover_of, hover_texts};
 ghost use Rattle.cb_lsp.specs.Renames.{if_renamable, is_at, is_some_tag, prepared, renamable_at};
@@ -144,12 +144,12 @@ fn put_hovers<W: Write>(
     )
 }
 
-/// Writes that nothing completes a word.
+/// Writes that no name completes the empty word yet.
 fn put_no_names<W: Write>(out: &mut Sink<W>, id: Id<'_>) -> Result<(), WriteFault>
     ensures { Puts out.old out.new result (frame (value_text (result_reply (id_json id.entry)
-        (completions_of [])))) }
+        (completion_list true [])))) }
 {
-    put_result(out, id, b"{\"isIncomplete\":false,\"items\":[]}")
+    put_result(out, id, b"{\"isIncomplete\":true,\"items\":[]}")
 }
 
 /// How the list of names that complete a word begins.
@@ -547,7 +547,7 @@ impl<'a> FileAsked<'a> {
         word: &'a [u8],
     ) -> Result<(), WriteFault>
         ensures { Puts out.old out.new result (frame (value_text (result_reply (id_json id.entry)
-            (completions_of (completing self.now.desk.now.timeline.present word.now))))) }
+            (completions_before self.now.desk.now.timeline.present word.now)))) }
     {
         match word {
             [] => put_no_names(out, id),

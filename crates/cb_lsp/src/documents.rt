@@ -1,14 +1,21 @@
 //! The documents that the editor has open.
 ghost use Rattle.std.specs.Prelude.{◌≡◌, [], false, IfOk, OnErr, OnOk};
 ghost use Rattle.std.specs.List.{position};
-ghost use Rattle.std.specs.Option.{option_map};
-ghost use Rattle.cb_lsp.specs.Documents.{document_of, is_named, is_open, kept_text, was_lost};
-ghost use Rattle.cb_lsp.specs.Documents.{without_document};
+ghost use Rattle.std.specs.Option.{option_copied, option_map};
+ghost use Rattle.cb_tags.specs.Writing.{Puts};
+ghost use Rattle.cb_lsp.specs.Bodies.{written_text};
+ghost use Rattle.cb_lsp.specs.Documents.{as_lost, document_of, is_named, is_open, kept_text};
+ghost use Rattle.cb_lsp.specs.Documents.{lost_all, told_unless, was_lost, without_document};
+ghost use Rattle.cb_lsp.specs.Messages.{named_lost};
+ghost use Rattle.cb_lsp.specs.steps.Told.{lost_text};
 ghost use Rattle.cb_lsp.specs.Models.{kept_in, kept_of};
 ghost use Rattle.cb_lsp.specs.steps.Noted.{is_present, keeps_present, new_document, noted};
 ghost use Rattle.cb_lsp.specs.steps.Noted.{text_again, with_noted, with_opened};
 
+use crate::written::put_told;
+use cb_tags::{Sink, WriteFault};
 use std::alloc::{AllocError, Global};
+use std::io::Write;
 use std::marker::Model;
 
 /// The text that a file has again when its document is closed, where the file system has no such
@@ -91,6 +98,20 @@ impl OpenDocument {
         self.lost
     }
 
+    /// Its text is out of date.
+    fn lose(&mut self)
+        ensures { self.new ≡ as_lost self.old }
+    {
+        self.lost = true;
+    }
+
+    /// Writes what the client is told where all documents are lost, if this one was not.
+    fn put_lost<W: Write>(&self, out: &mut Sink<W>) -> Result<(), WriteFault>
+        ensures { Puts out.old out.new result (lost_text self.now) }
+    {
+        put_told(out, self.name.as_slice(), told_unless(self.lost, DROPPED))
+    }
+
     /// Notes what it keeps, where that is another text, and whether it is lost; whether it was.
     fn note(&mut self, kept: Option<Kept>, lost: bool) -> bool
         ensures document { self.new ≡ noted (kept_in kept) lost self.old }
@@ -118,6 +139,16 @@ impl Model for Documents {
     ghost Value = { List Document };
 
     ghost view = { λ d. d.open.items };
+}
+
+/// What the client is told of a document that is lost with all others.
+const DROPPED: &str = "out of date, a message was dropped: close the file and open it again";
+
+/// What is told of a document that is lost, unless it was lost.
+pub(crate) fn told_unless(was_lost: bool, why: &'static str) -> Option<&'static str>
+    ensures { option_copied result ≡ told_unless was_lost why.now }
+{
+    if was_lost { None } else { Some(why) }
 }
 
 /// A copy of a text.
@@ -173,6 +204,25 @@ impl Documents {
             Some(place) => self.open[place].is_lost(),
             None => false,
         }
+    }
+
+    /// All documents are lost.
+    pub(crate) fn lose_all(&mut self)
+        ensures { self.new ≡ lost_all self.old }
+    {
+        for document in self.open.iter_mut() {
+            document.lose();
+        }
+    }
+
+    /// Writes what the client is told where all documents are lost, for each that was not.
+    pub(crate) fn put_lost<W: Write>(&self, out: &mut Sink<W>) -> Result<(), WriteFault>
+        ensures { Puts out.old out.new result (written_text (named_lost self.now)) }
+    {
+        for document in self.open.iter() {
+            document.put_lost(out)?;
+        }
+        Ok(())
     }
 
     /// Opens the document of a file, with nothing kept, unless it is open.

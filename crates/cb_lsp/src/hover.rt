@@ -1,16 +1,31 @@
 //! A definition as a hover shows it.
 ghost use Rattle.std.specs.Prelude.{◌≡◌};
 ghost use Rattle.cb_wire.specs.Texts.{parts_text};
+ghost use Rattle.cb_lsp.specs.Hovers.{cut_line};
 ghost use Rattle.cb_lsp.specs.steps.Elements.{hover_element, hovers_left};
 
 use crate::meaning::Meaning;
 use cb_desk::unindented;
 use cb_tags::{Sink, WriteFault};
-use cb_wire::{Element, Elements, Part, parts_length, put_parts};
+use cb_wire::{
+    Element, Elements, Encoding, Part, column_of_place, parts_length, place_of_column, put_parts,
+};
 use std::io::Write;
 
 /// The most definitions that a hover shows.
 pub(crate) const MOST_HOVERS: usize = 8;
+
+/// The most bytes of a line that a hover shows.
+const MOST_LINE: usize = 400;
+
+/// At most so many bytes of a line, up to the end of a character.
+fn cut_line(line: &[u8]) -> &[u8]
+    ensures { result.now ≡ cut_line line.now }
+{
+    let column = column_of_place(Encoding::Utf16, line, MOST_LINE);
+    line.split_at(place_of_column(Encoding::Utf16, line, column))
+        .0
+}
 
 /// A definition: its file, its line (from 1) and the text of that line.
 #[derive(Clone, Copy)]
@@ -30,7 +45,7 @@ impl<'a> Hover<'a> {
             Part::Raw(b":"),
             Part::Number(self.line as usize),
             Part::Raw(b"\\n"),
-            Part::Source(unindented(self.text)),
+            Part::Source(cut_line(unindented(self.text))),
         ]
     }
 }

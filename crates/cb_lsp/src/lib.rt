@@ -6,6 +6,7 @@
 //! [`Server::serve`].
 #![tactic(auto)]
 
+mod alike;
 mod answers;
 mod body;
 mod caller;

@@ -15,6 +15,7 @@ ghost use Rattle.cb_lsp.specs.Answers.{answer_reply, reply_with};
 ghost use Rattle.cb_lsp.specs.Bodies.{Replies};
 ghost use Rattle.cb_lsp.specs.Documents.{Oracle, Reading, document_of, was_lost};
 ghost use Rattle.cb_lsp.specs.Models.{found_in};
+ghost use Rattle.cb_lsp.specs.Names.{is_outside};
 ghost use Rattle.cb_lsp.specs.Renames.{all_edits, check, checks, files_of, is_some_use};
 ghost use Rattle.cb_lsp.specs.Renames.{renamable_at, renamed_all, renamed_uses, renamed_word};
 ghost use Rattle.cb_lsp.specs.Renames.{unless_found, unless_lost};
@@ -24,6 +25,7 @@ ghost use Rattle.cb_lsp.specs.steps.Renames.{check_if, edits_left, is_last_of, r
 ghost use Rattle.cb_lsp.specs.steps.Renames.{ComesTo};
 ghost use Rattle.cb_lsp.specs.steps.Works.{one_change};
 
+use crate::alike::is_counted_alike;
 use crate::answers::FileAsked;
 use crate::disk::{Disk, Found, most_read};
 use crate::documents::Documents;
@@ -126,6 +128,13 @@ fn put_unedited<W: Write>(
     }
 }
 
+/// Whether the file of a name is outside the root.
+fn is_outside(name: &[u8]) -> bool
+    ensures { result ≡ is_outside name.now }
+{
+    matches!(name, [b'/', ..])
+}
+
 /// Whether a name has a use.
 fn is_used(desk: &Desk, name: &[u8]) -> bool
     ensures { result ≡ is_some_use (uses_of desk.now.timeline.present.profile name.now
@@ -179,7 +188,7 @@ impl<'a> Renaming<'a> {
     {
         match found {
             Found::Holds(text) => {
-                if self.has_text(file, text.as_slice()) {
+                if self.has_text(file, text.as_slice()) && is_counted_alike(text.as_slice()) {
                     None
                 } else {
                     Some(Unedited::NotOpen(file))
@@ -203,12 +212,16 @@ impl<'a> Renaming<'a> {
         }
     }
 
-    /// Why a file is not edited. One that is not open is read again.
+    /// Why a file is not edited: it is outside the root, or its text may be another one. One that is
+    /// not open is read again.
     fn unedited<D: Disk>(&self, alloc: Global, disk: &D, file: &'a [u8]) -> Option<Unedited<'a>>
         ensures { (no_path : Bool) × (found : Reading) × ComesTo (D.finds disk.now)
             (check (one_change no_path found) (client_in self.now.asked.forms) (work_in self.now)
             file.entry.now) result }
     {
+        if is_outside(file) {
+            return Some(Unedited::NotOpen(file));
+        }
         if self.documents.is_open(file) {
             return self.unless_lost(file);
         }

@@ -1,6 +1,7 @@
 //! A language server, and what a message does to it.
 ghost use Rattle.std.specs.Prelude.{◌≡◌, ◌&&◌};
 ghost use Rattle.cb_lsp.specs.Messages.{encoding_for, ends_as_c, is_opening, may_enter};
+ghost use Rattle.cb_lsp.specs.Names.{is_document_name};
 ghost use Rattle.cb_lsp.specs.steps.Values.{seen};
 
 use crate::answers::{FileAsked, put_session_symbols};
@@ -21,6 +22,7 @@ use cb_desk::{Desk, Field};
 use cb_tags::{Sink, WriteFault, is_file_name};
 use cb_wire::{
     Call, Encoding, ErrorCode, Id, Position, Root, path_of_uri, put_watch_request, put_welcome,
+    steps_back,
 };
 use json::Value;
 use std::alloc::{AllocError, Global};
@@ -82,11 +84,18 @@ fn opens_as_c(notice: Notice, path: &[u8]) -> bool
     ends_as_c(path) && notice.is_opening()
 }
 
+/// Whether a file of a server may have this name: it is a file name, and does not step back.
+fn is_document_name(name: &[u8]) -> bool
+    ensures { result ≡ is_document_name name.now }
+{
+    is_file_name(name) && !steps_back(name)
+}
+
 /// Whether a file of a path that is not there yet is taken in under a name.
 fn may_enter(path: &[u8], name: &[u8]) -> bool
     ensures { result ≡ may_enter path.now name.now }
 {
-    is_file_name(name) && !(name == path)
+    is_document_name(name) && !(name == path)
 }
 
 /// What the columns of a client count.
@@ -110,7 +119,8 @@ impl Server {
     ghost use Rattle.cb_wire.specs.Trees.{result_reply};
     ghost use Rattle.cb_wire.specs.Values.{value_text};
     ghost use Rattle.cb_lsp.specs.Answers.{answer_named, reply_with};
-    ghost use Rattle.cb_lsp.specs.Messages.{asked_reply, fresh_server, happened, happened_at};
+    ghost use Rattle.cb_lsp.specs.Messages.{all_lost, asked_reply, dropped, fresh_server};
+    ghost use Rattle.cb_lsp.specs.Messages.{happened, happened_at, unread};
     ghost use Rattle.cb_lsp.specs.Messages.{happened_in, initialized, noticed, noticed_at};
     ghost use Rattle.cb_lsp.specs.Messages.{noticed_by, noticed_of, read_behind, registers};
     ghost use Rattle.cb_lsp.specs.Messages.{requested, running, with_root};
@@ -482,6 +492,25 @@ impl Server {
         }
     }
 
+    /// All documents are lost; each that was not is named to the client.
+    pub(crate) fn lose_all<W: Write>(&mut self, out: &mut Sink<W>) -> Result<(), WriteFault>
+        ensures { Does (all_lost self.old) self.new out.old out.new result }
+    {
+        self.work.documents().put_lost(out)?;
+        self.work.lose_all();
+        Ok(())
+    }
+
+    /// Writes that memory was refused to the URI of a notification, which is dropped.
+    fn drop_notice<W: Write>(&mut self, out: &mut Sink<W>, uri: &[u8]) -> Result<(), WriteFault>
+        ensures { Does (dropped self.old (unread uri.now)) self.new out.old out.new result }
+    {
+        match put_unread(out, uri) {
+            Ok(()) => self.lose_all(out),
+            Err(fault) => Err(fault),
+        }
+    }
+
     /// Takes a notification; only a server that runs does something.
     pub(crate) fn notice<D: Disk, W: Write>(
         &mut self,
@@ -548,7 +577,7 @@ impl Server {
         match path_of_uri(alloc, uri.as_bytes()) {
             Ok(Some(path)) => self.take_path(alloc, disk, out, notice, params, path.as_slice()),
             Ok(None) => Ok(()),
-            Err(_) => put_unread(out, uri.as_bytes()),
+            Err(_) => self.drop_notice(out, uri.as_bytes()),
         }
     }
 
@@ -585,7 +614,7 @@ impl Server {
             (seen params.entry) path.now) self.new out.old out.new result }
     {
         let name = self.root.name(path);
-        if is_file_name(name) {
+        if is_document_name(name) {
             let found = self.found_behind(alloc, disk, notice, path, name);
             let told = self
                 .work

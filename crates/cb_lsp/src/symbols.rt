@@ -27,6 +27,9 @@ use cb_wire::{Elements, Location, Root, Symbol, TreeSymbol};
 /// The most symbols of a session that are told.
 pub(crate) const MOST_SYMBOLS: usize = 1_000;
 
+/// The most bytes of a query that is sought in names.
+const MOST_QUERY: usize = 255;
+
 /// The definitions of a file.
 #[derive(Drop)]
 pub(crate) struct FileDefs<'a> {
@@ -188,7 +191,7 @@ fn session_symbol<'a>(places: &mut Located<'a>, row: &TagRow<'a>) -> Symbol<'a>
 fn is_like(query: &[u8], name: &[u8]) -> bool
     ensures { result ≡ is_name_like query.now name.now }
 {
-    name != query && holds_like(query, name)
+    query.len() <= MOST_QUERY && (name != query && holds_like(query, name))
 }
 
 /// The next definition whose name holds the query, and is not it.

@@ -7,7 +7,6 @@ use crate::Server;
 use crate::body::going_on;
 use crate::disk::Disk;
 use crate::server::Stage;
-use crate::written::log;
 use cb_tags::{Feed, Sink, WriteFault};
 use cb_wire::{Frame, FrameError, Frames};
 use json::Scratch;
@@ -95,11 +94,11 @@ impl Server {
                 self.go_on(out, taken)
             }
             Ok(Frame::TooLarge) => {
-                let taken = going_on(log(out, b"too large"));
+                let taken = going_on(self.drop_body(out, b"too large"));
                 self.go_on(out, taken)
             }
             Ok(Frame::OutOfMemory) => {
-                let taken = going_on(log(out, b"out of memory"));
+                let taken = going_on(self.drop_body(out, b"out of memory"));
                 self.go_on(out, taken)
             }
             Ok(Frame::End) => Ok(Some(ending_at(self.stage()))),

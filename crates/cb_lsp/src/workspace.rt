@@ -6,7 +6,8 @@ ghost use Rattle.json.specs.Value.{items_view};
 ghost use Rattle.cb_tags.specs.Names.{is_file_name};
 ghost use Rattle.cb_desk.specs.Models.{step_of};
 ghost use Rattle.cb_lsp.specs.Documents.{changed, closed, document_of, given, given_found, is_open};
-ghost use Rattle.cb_lsp.specs.Documents.{is_renewed, opened, removed, saved, taken, text_step};
+ghost use Rattle.cb_lsp.specs.Documents.{is_renewed, lost_all, opened, removed, saved, taken};
+ghost use Rattle.cb_lsp.specs.Documents.{text_step};
 ghost use Rattle.cb_lsp.specs.Documents.{told_unless, was_lost};
 ghost use Rattle.cb_lsp.specs.Messages.{told_of};
 ghost use Rattle.cb_lsp.specs.Models.{found_in, kept_in};
@@ -18,7 +19,7 @@ ghost use Rattle.cb_lsp.specs.steps.Works.{one_change, text_at};
 
 use crate::change::text_by;
 use crate::disk::Found;
-use crate::documents::{Documents, Kept, copy_of};
+use crate::documents::{Documents, Kept, copy_of, told_unless};
 use crate::notice::Notice;
 use crate::params;
 use cb_desk::{Change, Desk, Field, Refusal};
@@ -46,13 +47,6 @@ impl Model for Workspace {
     } };
 
     ghost invariant = { λ w. IsForgotten w.desk.timeline };
-}
-
-/// What is told of a document that is lost, unless it was lost.
-fn told_unless(was_lost: bool, why: &'static str) -> Option<&'static str>
-    ensures { option_copied result ≡ told_unless was_lost why.now }
-{
-    if was_lost { None } else { Some(why) }
 }
 
 impl Workspace {
@@ -158,6 +152,13 @@ impl Workspace {
             ≡ told_unless (was_lost (document_of self.old.documents name.now)) why.now }
     {
         told_unless(self.documents.note(name, None, true), why)
+    }
+
+    /// All documents are lost.
+    pub(crate) fn lose_all(&mut self)
+        ensures { self.new ≡ record self.old { documents = lost_all self.old.documents } }
+    {
+        self.documents.lose_all();
     }
 
     /// Opens a document with a text; what the client is told.

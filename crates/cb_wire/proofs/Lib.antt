@@ -10,6 +10,7 @@ pub mod Escapes
 pub mod FirstLines
 pub mod Fitting
 pub mod Folds
+pub mod Forms
 pub mod FrameLemmas
 pub mod Letters
 pub mod Lines
@@ -25,6 +26,7 @@ pub mod ReadHeads
 pub mod Readable
 pub mod Roots
 pub mod SameFronts
+pub mod Pairs
 pub mod Symbols
 pub mod Trees
 pub mod Unescaped

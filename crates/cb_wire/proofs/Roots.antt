@@ -1,5 +1,5 @@
 -- Roots, and names that are read back from their URIs.
-use Rattle.std.proofs.Common.{◌≡◌, ◌≢◌, ℕ, zero, suc, ◌+◌, ◌-◌, ◌*◌, ◌<◌, ◌==◌, true, false}
+use Rattle.std.proofs.Common.{◌≡◌, ◌≢◌, ℕ, zero, suc, ◌+◌, ◌-◌, ◌*◌, ◌<◌, ◌==◌, ◌&&◌, Bool, not, true, false}
 use Rattle.std.proofs.Common.{List, [], ◌∷◌, ◌++◌, length, take, drop, map, Option, Some, None}
 use Rattle.std.proofs.Common.{refl, sym, ap, ◌∙◌, subst, arith, ⊎_elim, ◌⊎◌, inl, inr, append_assoc}
 use Rattle.std.proofs.Common.{length-append, take-append-drop}
@@ -18,9 +18,10 @@ use Rattle.percent_encoding.proofs.PercentLemmas.{KeepsFirst_from_no_escape, IsB
 use Rattle.percent_encoding.proofs.PercentLemmas.{percent_decode-nil, percent_decode_not_percent}
 use Rattle.percent_encoding.proofs.PercentLemmas.{percent_decode-percent_encode_byte}
 use Rattle.cb_tags.proofs.Follows.{Some-same}
-use Rattle.cb_wire.specs.Uris.{Below, IsRoot, IsBelow, after, after_slash, begins_with_slash}
+use Rattle.cb_wire.proofs.Forms.{both, form-slash}
+use Rattle.cb_wire.specs.Uris.{Below, HasOneForm, IsRoot, IsBelow, after, after_slash, begins_with_slash, below}
 use Rattle.cb_wire.specs.Uris.{escaped, escape_byte, escaped_path, if_path, is_kept, last_slashes}
-use Rattle.cb_wire.specs.Uris.{name_below, of_folder, of_uri, on_this_host, path_below, path_of}
+use Rattle.cb_wire.specs.Uris.{name_below, of_folder, of_uri, on_this_host, one_form, path_below, path_of}
 use Rattle.cb_wire.specs.Uris.{slash, uri_of}
 
 -- a slash is no part of an escape
@@ -100,7 +101,7 @@ module _ (folder : List ℕ) (small : All IsByte folder) (absolute : begins_with
       let n = length folder - last_slashes folder in
       let path = take n folder in (
         escaped path,
-        decode-escaped path (All-take IsByte n folder small),
+        ap one_form (decode-escaped path (All-take IsByte n folder small)),
         λ rest.
             let more = escaped path ++ 47 ∷ rest in
             ap escaped_path (append_assoc (codes "file://") (escaped path) (47 ∷ rest))
@@ -109,23 +110,26 @@ module _ (folder : List ℕ) (small : All IsByte folder) (absolute : begins_with
 
 -- no folder is one
 pub no_folder_is_root : IsRoot (of_folder [])
-no_folder_is_root = ([], percent_decode-nil, λ rest. scheme-after (47 ∷ rest) refl)
+no_folder_is_root = ([], ap one_form percent_decode-nil, λ rest. scheme-after (47 ∷ rest) refl)
 
 -- what is read behind a root
 pub read-below : (root : Below) (rest : List ℕ) → IsRoot root
-    → path_of (root.uri ++ 47 ∷ rest) ≡ Some (root.path ++ 47 ∷ percent_decode rest)
+    → path_of (root.uri ++ 47 ∷ rest) ≡ Some (root.path ++ one_form (percent_decode rest))
 read-below root rest is =
-    ap (option_map percent_decode) (is.2 rest) ∙ ap Some (decode-slash is.0 rest)
-    ∙ ap (λ p. Some (p ++ 47 ∷ percent_decode rest)) is.1
+    ap (λ o. option_map one_form (option_map percent_decode o)) (is.2 rest)
+    ∙ ap (λ p. Some (one_form p)) (decode-slash is.0 rest)
+    ∙ ap Some (form-slash (percent_decode is.0) (percent_decode rest))
+    ∙ ap (λ p. Some (p ++ one_form (percent_decode rest))) is.1
 
 -- the name of a path below a root
-pub name-below : (root name : List ℕ) → name_below root (root ++ 47 ∷ name) ≡ name
-name-below root name =
+pub name-below : (root name : List ℕ) → begins_with_slash name ≡ false
+    → name_below root (root ++ 47 ∷ name) ≡ name
+name-below root name relative =
     let path = root ++ 47 ∷ name in
     let same : bytes_eq (take (length root) path) root ≡ true =
     (bytes_eq-Decides (take (length root) path) root).1 (take-append_seam root (47 ∷ name)) in
     ap (λ o. unwrap_or o path) (cond-true _ _ _ same
-    ∙ ap after_slash (drop-append_seam root (47 ∷ name)))
+    ∙ ap after_slash (drop-append_seam root (47 ∷ name)) ∙ cond-true _ _ _ (ap (λ b. (47 == slash) && not b) relative))
 
 -- a front is taken off again
 front-off : (n : ℕ) (front p : List ℕ) → length front ≡ n
@@ -260,9 +264,9 @@ slash-cut : (l : List ℕ) (o : Option (List ℕ)) → o ≡ after_slash l
     → (o ≡ None) ⊎ ((rest : List ℕ) × (l ≡ 47 ∷ rest))
 slash-cut [] o e = inl e
 slash-cut (b ∷ bs) o e = ⊎_elim
-    (λ t. inr (bs, ap (λ c. c ∷ bs) (eqb-true b 47 t)))
+    (λ t. inr (bs, ap (λ c. c ∷ bs) (eqb-true b 47 (both (b == 47) _ t).0)))
     (λ f. inl (e ∙ cond-false _ _ _ f))
-    (cases_Bool (b == 47))
+    (cases_Bool (b == 47 && not (begins_with_slash bs)))
 
 name-itself : (root path : List ℕ) → (IsBelow root path → ⊥) → name_below root path ≡ path
 name-itself root path other =
@@ -283,16 +287,21 @@ name-itself root path other =
 
 -- the path of the URI of a name
 pub uri-path : (root : Below) (name : List ℕ) → IsRoot root → All IsByte name
-    → path_of (uri_of root name) ≡ Some (path_below root.path name)
-uri-path root name is small = ⊎_elim
+    → HasOneForm name → path_of (uri_of root name) ≡ Some (path_below root.path name)
+uri-path root name is small form = ⊎_elim
     (λ t.
     ap path_of (cond-true _ _ _ t)
-    ∙ ap (option_map percent_decode) (scheme-after (escaped name) (slash-first name t))
-    ∙ ap Some (decode-escaped name small ∙ sym (cond-true _ _ _ t)))
+    ∙ ap (λ o. option_map one_form (option_map percent_decode o))
+    (scheme-after (escaped name) (slash-first name t))
+    ∙ ap (λ p. Some (one_form p)) (decode-escaped name small)
+    ∙ ap Some (ap one_form (sym (cond-true _ _ _ t)) ∙ form ∙ cond-true _ _ _ t
+    ∙ sym (cond-true _ _ _ t)))
     (λ f.
     ap path_of (cond-false _ _ _ f) ∙ read-below root (escaped name) is
-    ∙ ap Some (ap (λ l. root.path ++ 47 ∷ l) (decode-escaped name small)
-    ∙ sym (cond-false _ _ _ f)))
+    ∙ ap (λ p. Some (root.path ++ one_form p)) (decode-escaped name small)
+    ∙ ap (λ p. Some (root.path ++ p))
+    (ap one_form (sym (cond-false _ _ _ f)) ∙ form ∙ cond-false _ _ _ f)
+    ∙ ap Some (sym (cond-false _ _ _ f)))
     (cases_Bool (begins_with_slash name))
 
 -- the name of the path of a name
@@ -301,13 +310,59 @@ pub path-again : (root name : List ℕ)
     → name_below root (path_below root name) ≡ name
 path-again root name other = ⊎_elim
     (λ t. ap (name_below root) (cond-true _ _ _ t) ∙ name-itself root name (other t))
-    (λ f. ap (name_below root) (cond-false _ _ _ f) ∙ name-below root name)
+    (λ f. ap (name_below root) (cond-false _ _ _ f) ∙ name-below root name f)
     (cases_Bool (begins_with_slash name))
 
 -- the name of the URI of a name
 pub names-again : (root : Below) (name : List ℕ) → IsRoot root → All IsByte name
-    → (begins_with_slash name ≡ true → IsBelow root.path name → ⊥)
+    → HasOneForm name → (begins_with_slash name ≡ true → IsBelow root.path name → ⊥)
     → option_map (name_below root.path) (path_of (uri_of root name)) ≡ Some name
-names-again root name is small other =
-    ap (option_map (name_below root.path)) (uri-path root name is small)
+names-again root name is small form other =
+    ap (option_map (name_below root.path)) (uri-path root name is small form)
     ∙ ap Some (path-again root.path name other)
+
+-- what follows a root and a slash, and is no path itself
+record IsCut (root path name : List ℕ) : Type 0 where
+  whole : path ≡ root ++ 47 ∷ name
+  relative : begins_with_slash name ≡ false
+
+unless-true : (b : Bool) → not b ≡ true → b ≡ false
+unless-true true e = cc
+unless-true false e = refl
+
+slash-off : (l name : List ℕ) → after_slash l ≡ Some name
+    → (l ≡ 47 ∷ name) × (begins_with_slash name ≡ false)
+slash-off [] name e = cc
+slash-off (b ∷ bs) name e = ⊎_elim
+    (λ t.
+    let same = Some-same bs name (sym (cond-true _ _ _ t) ∙ e) in (
+      ap (λ c. c ∷ bs) (eqb-true b 47 (both (b == 47) _ t).0) ∙ ap (λ l. 47 ∷ l) same,
+      subst (λ l. begins_with_slash l ≡ false) same (unless-true _ (both (b == 47) _ t).1),
+    ))
+    (λ f. none-some name (sym (cond-false _ _ _ f) ∙ e))
+    (cases_Bool (b == 47 && not (begins_with_slash bs)))
+
+cut-of : (root path name : List ℕ) → below root path ≡ Some name → IsCut root path name
+cut-of root path name e =
+    let n = length root in
+    ⊎_elim
+    (λ t.
+    let off = slash-off (drop n path) name (sym (cond-true _ _ _ t) ∙ e) in
+    let front = (bytes_eq-Decides (take n path) root).0 t in record {
+      whole = sym (take-append-drop n path) ∙ ap (λ l. l ++ drop n path) front
+          ∙ ap (λ l. root ++ l) off.0;
+      relative = off.1;
+    })
+    (λ f. none-some name (sym (cond-false _ _ _ f) ∙ e))
+    (cases_Bool (bytes_eq (take n path) root))
+
+from-name : (root path : List ℕ) → begins_with_slash path ≡ true → (o : Option (List ℕ))
+    → below root path ≡ o → path_below root (unwrap_or o path) ≡ path
+from-name root path absolute None e = cond-true _ _ _ absolute
+from-name root path absolute (Some name) e = let cut = cut-of root path name e in
+    cond-false _ _ _ cut.relative ∙ sym cut.whole
+
+-- the path of the name of a path
+pub path-of-name : (root path : List ℕ) → begins_with_slash path ≡ true
+    → path_below root (name_below root path) ≡ path
+path-of-name root path absolute = from-name root path absolute (below root path) refl

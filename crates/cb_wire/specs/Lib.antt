@@ -16,6 +16,7 @@ pub mod Uris
 pub mod Values
 pub mod Locations
 pub mod Lists
+pub mod Surrogates
 pub mod Symbols
 pub mod Watchers
 pub mod Welcome

@@ -4,7 +4,7 @@ use Rattle.std.specs.Prelude.{FitsSigned, option_map, is_some}
 use Rattle.std.specs.Int.{w64}
 use Rattle.std.specs.Str.Parse.{IsNumeral, signed_digits_value, without_leading_sign}
 use Rattle.bstr.specs.Utf8.{lossy_chars}
-use Rattle.std.specs.Str.{encode_utf8_all}
+use Rattle.std.specs.Str.{bytes_eq, encode_utf8_all}
 use Rattle.json.specs.Json.{Json, null, boolean, number, string, array, object}
 use Rattle.json.specs.Find.{get}
 use Rattle.json.specs.Value.{value_view}
@@ -32,6 +32,14 @@ IsId (boolean b) = ⊥
 IsId (array js) = ⊥
 IsId (object ms) = ⊥
 
+-- an id as it comes back: the integer in decimal, so that -0 is 0, or the string
+abbrev pub plain_number : List ℕ → List ℕ
+plain_number s = cond (bytes_eq s (codes "-0")) (codes "0") s
+
+abbrev pub plain_id : Json → Json
+plain_id (number s) = number (plain_number s)
+plain_id j = j
+
 -- the value that an id stands for
 abbrev pub id_json : Id → Json
 id_json (Number s) = number s.now
@@ -49,7 +57,8 @@ IsNotification method params NotRequest = ⊥
 IsNotification method params Reply = ⊥
 
 abbrev pub IsRequest : Json → List ℕ → Option Json → Message → Type 0
-IsRequest i method params (Request id call) = (id_json id ≡ i) × IsCall method params call
+IsRequest i method params (Request id call) =
+    (id_json id ≡ plain_id i) × IsCall method params call
 IsRequest i method params (Notification call) = ⊥
 IsRequest i method params NotRequest = ⊥
 IsRequest i method params Reply = ⊥

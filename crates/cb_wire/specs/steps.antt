@@ -1,2 +1,3 @@
 pub mod ReadBodies
 pub mod ReadHeads
+pub mod Segments

@@ -25,7 +25,8 @@ ghost use Rattle.cb_wire.specs.declared.reply.ErrorCode.{ErrorCode};
 ghost use Rattle.cb_wire.specs.Replies.{error_body, log_body, result_body, show_body};
 ghost use Rattle.cb_wire.specs.Trees.{error_reply, error_tree, notice_tree, result_reply};
 ghost use Rattle.cb_wire.specs.Trees.{result_tree};
-ghost use Rattle.cb_wire.specs.Uris.{Below, IsBelow, IsRoot, begins_with_slash, escaped};
+ghost use Rattle.cb_wire.specs.Uris.{Below, HasOneForm, IsBelow, IsRoot, begins_with_slash};
+ghost use Rattle.cb_wire.specs.Uris.{escaped};
 ghost use Rattle.cb_wire.specs.Uris.{escaped_path, name_below, of_folder, of_uri, path_below};
 ghost use Rattle.cb_wire.specs.Uris.{path_of, uri_of};
 ghost use Rattle.cb_wire.specs.Calls.{call_item_tree, calls_of, side_name};
@@ -81,17 +82,20 @@ pub fn roots_are()
     ensures uri { (uri path : List ℕ) → escaped_path uri ≡ Some path → IsRoot (of_uri uri path) }
 {}
 
-/// The URI of a name names the file that has its path, and the name of that path is the name again,
-/// unless it begins with a slash and lies below the root.
+/// The URI of a name in its one form names the file that has its path, and the name of that path is
+/// the name again, unless it begins with a slash and lies below the root. The path of the name of a
+/// path is that path, so two files never have one name.
 pub fn names_are_read_back()
     ensures path { (root : Below) (name : List ℕ) → IsRoot root → All (λ b. b < 256) name
-        → path_of (uri_of root name) ≡ Some (path_below root.path name) }
+        → HasOneForm name → path_of (uri_of root name) ≡ Some (path_below root.path name) }
     ensures name { (root name : List ℕ)
         → (begins_with_slash name ≡ true → IsBelow root name → ⊥)
         → name_below root (path_below root name) ≡ name }
     ensures uri { (root : Below) (name : List ℕ) → IsRoot root → All (λ b. b < 256) name
-        → (begins_with_slash name ≡ true → IsBelow root.path name → ⊥)
+        → HasOneForm name → (begins_with_slash name ≡ true → IsBelow root.path name → ⊥)
         → option_map (name_below root.path) (path_of (uri_of root name)) ≡ Some name }
+    ensures path_again { (root path : List ℕ) → begins_with_slash path ≡ true
+        → path_below root (name_below root path) ≡ path }
 {}
 
 /// What is written is JSON: a reply whose result is the text of a value reads back as the reply

@@ -19,6 +19,7 @@ mod position;
 mod range;
 mod reply;
 mod root;
+mod surrogates;
 mod symbol;
 mod units;
 mod uri;
@@ -40,8 +41,9 @@ pub use reply::{
     put_show,
 };
 pub use root::Root;
+pub use surrogates::with_whole_pairs;
 pub use symbol::{Symbol, TreeSymbol};
 pub use units::{Encoding, column_of_place, place_of_column};
-pub use uri::{path_of_uri, put_escaped};
+pub use uri::{path_of_uri, put_escaped, steps_back};
 pub use watch::put_watch_request;
 pub use welcome::put_welcome;

@@ -3,7 +3,8 @@ ghost use Rattle.std.specs.Prelude.{◌≡◌, ◌&&◌, ◌||◌, IfOk, MatchOp
 ghost use Rattle.std.specs.Cow.{cow_str_bytes};
 ghost use Rattle.json.specs.Json.{document};
 ghost use Rattle.json.specs.Value.{value_view};
-ghost use Rattle.cb_wire.specs.Messages.{IsId, Judges, has, id_json, text_of};
+ghost use Rattle.cb_wire.specs.Messages.{IsId, Judges, has, id_json, plain_id, plain_number};
+ghost use Rattle.cb_wire.specs.Messages.{text_of};
 
 use bstr::ByteSlice;
 use json::{Error, Scratch, Value};
@@ -14,7 +15,7 @@ use std::borrow::CowStr;
 #[derive(Clone, Copy, Debug, PartialEq, Eq)]
 pub struct OutOfMemory;
 
-/// The id of a request, as it came.
+/// The id of a request, as it comes back.
 #[derive(Clone, Copy, Debug, PartialEq, Eq)]
 pub enum Id<'a> {
     /// The text of an integer.
@@ -66,16 +67,23 @@ pub fn value_of<'a>(
     }
 }
 
+/// The text of an integer in decimal.
+fn plain_number(text: &str) -> &str
+    ensures { result.now ≡ plain_number text.now }
+{
+    if text == "-0" { "0" } else { text }
+}
+
 /// The id that a value is, if it may be one.
 fn id_of<'a>(value: &Value<'a>) -> Option<Id<'a>>
     ensures { MatchOption result (IsId (value_view value.now) → ⊥)
-        (λ id. (id_json id ≡ value_view value.now) × IsId (value_view value.now)) }
+        (λ id. (id_json id ≡ plain_id (value_view value.now)) × IsId (value_view value.now)) }
 {
     match value.as_str() {
         Some(text) => Some(Id::Text(text)),
         None => match value.as_i64() {
             Some(_) => match value.as_number() {
-                Some(text) => Some(Id::Number(text)),
+                Some(text) => Some(Id::Number(plain_number(text))),
                 None => None,
             },
             None => None,

@@ -9,7 +9,7 @@ ghost use Rattle.cb_wire.specs.Uris.{path_below, uri_of, without_slashes};
 use crate::part::{json_length, put_json, put_sized};
 use crate::uri::{
     append_escaped, begins_with_slash, below, escaped_length, escaped_path, last_slashes,
-    put_escaped,
+    one_form_of, put_escaped,
 };
 use cb_tags::{Sink, WriteFault, put_texts};
 use percent_encoding::percent_decode;
@@ -54,8 +54,7 @@ impl Root {
         ensures { IfOk result (λ root. root ≡ of_folder folder.now) }
     {
         let folder = without(last_slashes(folder), folder);
-        let mut path = Vec::new(alloc);
-        path.extend_from_slice(folder)?;
+        let path = one_form_of(alloc, folder)?;
         let mut uri = Vec::new(alloc);
         uri.extend_from_slice(b"file://")?;
         append_escaped(&mut uri, folder)?;
@@ -72,8 +71,8 @@ impl Root {
             return Ok(None);
         };
         let slashes = last_slashes(escaped);
-        let mut path = Vec::new(alloc);
-        percent_decode(without(slashes, escaped)).append_to(&mut path)?;
+        let decoded = percent_decode(without(slashes, escaped)).into_cow(alloc)?;
+        let path = one_form_of(alloc, decoded.as_slice())?;
         let mut text = Vec::new(alloc);
         text.extend_from_slice(without(slashes, uri))?;
         let inside = json_length(text.as_slice());

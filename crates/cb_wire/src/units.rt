@@ -1,5 +1,6 @@
 //! Columns of a line.
-ghost use Rattle.std.specs.Prelude.{◌≡◌, ◌≤◌, ◌<◌, ◌==◌, cond, length, take, IfNone, IfSome};
+ghost use Rattle.std.specs.Prelude.{◌≡◌, ◌≤◌, ◌<◌, ◌==◌, cond, drop, length, take, IfNone};
+ghost use Rattle.std.specs.Prelude.{IfSome};
 ghost use Rattle.cb_wire.specs.Units.{column, first, place_in_line};
 
 use bstr::decode_utf8;
@@ -66,6 +67,19 @@ pub(crate) fn before(text: &[u8], place: usize) -> &[u8]
         text.split_at(place).0
     } else {
         text
+    }
+}
+
+/// The bytes after a place.
+pub(crate) fn after_place(text: &[u8], place: usize) -> &[u8]
+    requires { 1 ≤ place }
+    ensures value { result.now ≡ drop place text.now }
+    ensures shorter { 0 < length text.now → length result.now < length text.now }
+{
+    if place < text.len() {
+        text.split_at(place).1
+    } else {
+        b""
     }
 }
 

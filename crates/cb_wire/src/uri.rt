@@ -1,11 +1,16 @@
 //! File URIs, and the names of files below a root.
-ghost use Rattle.std.specs.Prelude.{◌≡◌, ◌++◌, ◌-◌, ◌*◌, ◌≤◌, IfOk, IfSome, count_by, length, not};
+ghost use Rattle.std.specs.Prelude.{◌≡◌, ◌++◌, ◌-◌, ◌*◌, ◌≤◌, IfOk, IfSome, count_by};
+ghost use Rattle.std.specs.Prelude.{length, not};
 ghost use Rattle.std.specs.Cow.{cow_slice_items};
+ghost use Rattle.std.specs.List.{list_all};
 ghost use Rattle.std.specs.Option.{option_map};
 ghost use Rattle.cb_tags.specs.Writing.{Puts};
 ghost use Rattle.cb_wire.specs.Uris.{after, begins_with_slash, below, escape_byte, escaped};
-ghost use Rattle.cb_wire.specs.Uris.{escaped_path, is_kept, last_slashes, path_of};
+ghost use Rattle.cb_wire.specs.Uris.{escaped_path, has_one_form, is_kept, last_slashes};
+ghost use Rattle.cb_wire.specs.Uris.{leads_on, one_form, path_of, segments, steps_back};
+ghost use Rattle.cb_wire.specs.steps.Segments.{segment_size, step_of};
 
+use crate::units::{after_place, before};
 use cb_tags::{Sink, WriteFault, put_text};
 use percent_encoding::{percent_decode, percent_encode_byte};
 use std::alloc::{AllocError, Global};
@@ -55,13 +60,89 @@ pub(crate) fn escaped_path(uri: &[u8]) -> Option<&[u8]>
     }
 }
 
-/// The path of a file URI, or `None` for any other text. Memory is taken only for a path with
-/// escapes.
+/// Whether a segment of a path leads on: it is not empty and no dot.
+fn leads_on(segment: &[u8]) -> bool
+    ensures { result ≡ leads_on segment.now }
+{
+    !(segment == b"".as_slice() || segment == b".".as_slice())
+}
+
+/// Whether a path steps back: it has a segment of two dots.
+pub fn steps_back(path: &[u8]) -> bool
+    ensures { result ≡ steps_back path.now }
+{
+    path.split(|byte| *byte == b'/')
+        .any(|segment| segment == b"..".as_slice())
+}
+
+/// Whether all segments of a path lead on.
+fn all_lead_on(path: &[u8]) -> bool
+    ensures { result ≡ list_all leads_on (segments path.now) }
+{
+    path.split(|byte| *byte == b'/')
+        .all(|segment| leads_on(segment))
+}
+
+/// Whether a path is seen to have its one form.
+fn has_one_form(path: &[u8]) -> bool
+    ensures { result ≡ has_one_form path.now }
+{
+    match path {
+        [b'/', rest @ ..] => all_lead_on(rest),
+        _ => false,
+    }
+}
+
+/// How many bytes the first segment of a path has.
+fn segment_size(path: &[u8]) -> usize
+    ensures value { result ≡ segment_size path.now }
+    ensures within { result ≤ length path.now }
+{
+    path.iter().take_while(|byte| !(**byte == b'/')).count()
+}
+
+/// The one form of a path: a slash before each segment that leads on.
+pub(crate) fn one_form_of(alloc: Global, path: &[u8]) -> Result<Vec<u8>, AllocError>
+    ensures { IfOk result (λ form. form.items ≡ one_form path.now) }
+{
+    let mut form = Vec::new(alloc);
+    let mut rest = path;
+    'segments: while rest.len() > 0 {
+        let size = segment_size(rest);
+        append_segment(&mut form, before(rest, size))?;
+        rest = after_place(rest, size + 1);
+    }
+    Ok(form)
+}
+
+/// A segment after a path, if it leads on.
+fn append_segment(form: &mut Vec<u8>, segment: &[u8]) -> Result<(), AllocError>
+    ensures { IfOk result (λ _. form.new.items ≡ form.old.items ++ step_of segment.now) }
+{
+    if leads_on(segment) {
+        form.push(b'/')?;
+        form.extend_from_slice(segment)?;
+    }
+    Ok(())
+}
+
+/// A path in its one form.
+fn in_one_form(alloc: Global, path: CowSlice<'_, u8>) -> Result<CowSlice<'_, u8>, AllocError>
+    ensures { IfOk result (λ form. cow_slice_items form ≡ one_form (cow_slice_items path.entry)) }
+{
+    if has_one_form(path.as_slice()) {
+        return Ok(path);
+    }
+    Ok(CowSlice::Owned(one_form_of(alloc, path.as_slice())?))
+}
+
+/// The path of a file URI in its one form, or `None` for any other text. Memory is taken only for a
+/// path with escapes or another form.
 pub fn path_of_uri(alloc: Global, uri: &[u8]) -> Result<Option<CowSlice<'_, u8>>, AllocError>
     ensures { IfOk result (λ path. option_map cow_slice_items path ≡ path_of uri.now) }
 {
     match escaped_path(uri) {
-        Some(path) => Ok(Some(percent_decode(path).into_cow(alloc)?)),
+        Some(path) => Ok(Some(in_one_form(alloc, percent_decode(path).into_cow(alloc)?)?)),
         None => Ok(None),
     }
 }
@@ -139,12 +220,12 @@ fn append_escaped_byte(text: &mut Vec<u8>, byte: u8) -> Result<(), AllocError>
     }
 }
 
-/// What follows a text and a slash at the front of a path.
+/// What follows a text and a slash at the front of a path, unless it begins with another slash.
 pub(crate) fn below<'a>(root: &[u8], path: &'a [u8]) -> Option<&'a [u8]>
     ensures { option_map (λ name. name.now) result ≡ below root.now path.now }
 {
     match path.strip_prefix(root) {
-        Some([b'/', name @ ..]) => Some(name),
+        Some([b'/', name @ ..]) if !begins_with_slash(name) => Some(name),
         _ => None,
     }
 }

@@ -13,7 +13,7 @@ use Rattle.cb_lsp.specs.Clients.{Client}
 use Rattle.cb_lsp.specs.Folds.{folded}
 use Rattle.cb_lsp.specs.Headers.{files_named}
 use Rattle.cb_lsp.specs.Highlights.{highlight, uses_of}
-use Rattle.cb_lsp.specs.Hovers.{hover_text}
+use Rattle.cb_lsp.specs.Hovers.{cut_line, hover_text}
 use Rattle.cb_lsp.specs.Symbols.{file_place, file_symbol_as, place_of, place_of_use}
 use Rattle.cb_lsp.specs.Symbols.{session_symbol}
 use Rattle.cb_lsp.specs.declared.calls.CallItems.{CallItems}
@@ -46,7 +46,7 @@ client_of_defs d = record {
 abbrev pub hover_element : Hover → List ℕ
 hover_element h =
     escape (readable h.file.now ++ codes ":" ++ decimal h.line ++ codes "\n"
-    ++ readable (unindented h.text.now))
+    ++ readable (cut_line (unindented h.text.now)))
 
 -- ---- those that are left
 

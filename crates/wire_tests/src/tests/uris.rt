@@ -1,6 +1,6 @@
 //! File URIs, as clients write them.
 use cb_tags::Sink;
-use cb_wire::{Root, path_of_uri, put_escaped};
+use cb_wire::{Root, path_of_uri, put_escaped, steps_back};
 use std::alloc::{AllocError, Global};
 use std::process::Abort;
 use std::test::Fail;
@@ -25,7 +25,12 @@ fn paths_of_uris(rt: HostRuntime) -> Result<(), Fail> {
         b"/a tree \xC3\xA9/a.c",
     )?;
     has_path(&rt, rt.alloc(), b"file:///100%.c%2", b"/100%.c%2")?;
+    has_path(&rt, rt.alloc(), b"file:///w//./src/.//a.c", b"/w/src/a.c")?;
+    has_path(&rt, rt.alloc(), b"file:///w/%2E/a.c/", b"/w/a.c")?;
+    has_path(&rt, rt.alloc(), b"file:///w/.x/y./a.c", b"/w/.x/y./a.c")?;
     has_path(&rt, rt.alloc(), b"file:///w/../w/a.c", b"/w/../w/a.c")?;
+    assert!(rt; steps_back(b"/w/../w/a.c"));
+    assert!(rt; !steps_back(b"/w/..a/b../a.c"));
     assert!(rt; path_of_uri(rt.alloc(), b"untitled:a.c")?.is_none());
     assert!(rt; path_of_uri(rt.alloc(), b"file://host/a.c")?.is_none());
     Ok(())

@@ -7,7 +7,7 @@ use Rattle.cb_wire.specs.Trees.{result_reply}
 use Rattle.cb_wire.specs.Values.{value_text}
 use Rattle.cb_lsp.specs.Answers.{answer_in, callables_at, definition_at, highlights_of, hover_at}
 use Rattle.cb_lsp.specs.Answers.{list_of, references_of_word}
-use Rattle.cb_lsp.specs.Completions.{completing, completions_of, word_before}
+use Rattle.cb_lsp.specs.Completions.{completions_before, word_before}
 use Rattle.cb_lsp.specs.Headers.{header_at}
 use Rattle.cb_lsp.specs.Renames.{prepared, renamable_at}
 use Rattle.cb_lsp.specs.Symbols.{file_symbol}
@@ -151,5 +151,5 @@ returns-in-Completions g c =
     (sym c.in-Completions.is)
     (subst (λ word. Puts c.args.out.now call.new.out call.result
     (frame (value_text (result_reply (id_json c.args.id)
-    (completions_of (completing w word))))))
+    (completions_before w word)))))
     (c.word_before.ensures ∙ ap (word_before f.source.now) at) call.ensures)

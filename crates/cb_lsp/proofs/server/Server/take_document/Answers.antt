@@ -2,7 +2,7 @@ use Rattle.std.proofs.Common.{Some, false, true, ◌∙◌, ap, refl}
 use Rattle.std.specs.Cow.{cow_slice_items}
 use Rattle.cb_wire.specs.Uris.{path_of}
 use Rattle.cb_lsp.specs.steps.Values.{seen}
-use Rattle.cb_lsp.proofs.Answered.{by-as, by-nothing, by-same}
+use Rattle.cb_lsp.proofs.Answered.{by-nothing, by-same, on-ok}
 use Rattle.cb_lsp.proofs.Notices.{behind, no-path, noticed-none, noticed-nowhere, noticed-path}
 use Rattle.cb_lsp.proofs.Notices.{noticed-unread}
 use Rattle.cb_lsp.proofs.Notices.{path-found, quiet}
@@ -29,7 +29,8 @@ pub returns-in-Err : goal.returns-in-Err
 returns-in-Err g c =
     let unread = noticed-unread c.args.notice c.args.self.now (seen c.args.params)
     c.as_bytes-in-Err.result.now (ap Some c.as_bytes-in-Err.ensures.value ∙ c.in-Some.ensures) in
-    (behind true quiet, by-as (g.D.Disk.finds c.args.disk.now) _ c.args.self.now _ _ _ _ _ unread refl c.put_unread.ensures)
+    (behind true quiet, by-same (g.D.Disk.finds c.args.disk.now) _ _ _ _ _ _ unread
+    (c.drop_notice.ensures, on-ok _ tt))
 
 pub returns-in_default : goal.returns-in_default
 returns-in_default g c =

@@ -10,8 +10,8 @@ use Rattle.cb_lsp.proofs.Answered.{by-as, by-nothing}
 use Rattle.cb_lsp.proofs.Notices.{noticed-bad, noticed-quiet, noticed-told, quiet}
 use Rattle.cb_lsp.proofs.server.Server.take_path.Goals as goal
 
-pub returns-then-is_file_name : goal.returns-then-is_file_name
-returns-then-is_file_name g c =
+pub returns-then-is_document_name : goal.returns-then-is_document_name
+returns-then-is_document_name g c =
     let finds = g.D.Disk.finds c.args.disk.now in
     let told = c.take_notice-told in
     let o : Oracle = record {
@@ -34,7 +34,7 @@ returns-then-is_file_name g c =
       noticed-told finds c.args.notice o held c.args.self.now (seen c.args.params) c.args.path.now
           c.name-name.result.now told.new.self (option_copied told.result) c.args.out.now
           c.put_told.new.out c.put_told.result c.self.view_is c.name-name.ensures
-          (sym c.is_file_name.ensures ∙ c.if-is_file_name.true) told.ensures.1 c.put_told.ensures
+          (sym c.is_document_name.ensures ∙ c.if-is_document_name.true) told.ensures.1 c.put_told.ensures
           (subst (λ (s : Serving). AllByRecursion finds (read_behind c.args.notice
           (found_in c.found_behind-found.result) s.work c.args.path.now c.name-name.result.now))
           (sym c.self.view_is) c.found_behind-found.ensures),
@@ -46,7 +46,7 @@ returns-then-opens_as_c g c =
     let named = c.name-name.ensures
     ∙ ap (λ (s : Serving). name_below s.client.root.path path) c.self.view_is in
     let noticed = noticed-bad c.args.notice c.args.self.now (seen c.args.params) path
-    c.name-name.result.now named (sym c.is_file_name.ensures ∙ c.if-is_file_name.false)
+    c.name-name.result.now named (sym c.is_document_name.ensures ∙ c.if-is_document_name.false)
     (sym c.opens_as_c.ensures ∙ c.if-opens_as_c.true) in
     (quiet, by-as (g.D.Disk.finds c.args.disk.now) _ c.args.self.now _ _ _ _ _ noticed refl c.put_bad_name.ensures)
 
@@ -56,6 +56,6 @@ returns g c =
     let named = c.name-name.ensures
     ∙ ap (λ (s : Serving). name_below s.client.root.path path) c.self.view_is in
     let noticed = noticed-quiet c.args.notice c.args.self.now (seen c.args.params) path
-    c.name-name.result.now named (sym c.is_file_name.ensures ∙ c.if-is_file_name.false)
+    c.name-name.result.now named (sym c.is_document_name.ensures ∙ c.if-is_document_name.false)
     (sym c.opens_as_c.ensures ∙ c.if-opens_as_c.false) in
     (quiet, by-nothing (g.D.Disk.finds c.args.disk.now) _ c.args.self.now _ c.args.out.now noticed refl)
