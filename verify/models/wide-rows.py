@@ -19,7 +19,8 @@ from typing import NamedTuple
 
 import wide_model
 import wide_pass
-from session_model import HEADS, World, answer, extended_lines, listing_lines, plain_lines
+from session_model import HEADS, MAY_BE_LOCAL, World
+from session_model import answer, extended_lines, listing_lines, plain_lines
 
 HERE = pathlib.Path(__file__).resolve().parent
 sys.path.insert(0, str(HERE.parent))
@@ -68,7 +69,8 @@ def files_of(text: bytes, rows: list[Row]) -> tuple[bytes, bytes, bytes]:
         address = line.replace(b"\\", b"\\\\").replace(b"/", b"\\/")
         tag_name = b"M" + FILE[:-2] if row.name == b"main" else row.name
         fields = [row.kind, b"line:%d" % row.line]
-        fields += [row.scope] if row.scope else [b"file:"] if row.local else []
+        is_local = row.local and row.kind in MAY_BE_LOCAL
+        fields += [row.scope] if row.scope else [b"file:"] if is_local else []
         after = b"\t" + FILE + b"\t/^" + address + b"$/"
         plain_file.append((tag_name, tag_name + after + b"\n"))
         extended.append((row.name, row.name + after + b';"\t' + b"\t".join(fields) + b"\n"))

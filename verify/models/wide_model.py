@@ -476,7 +476,7 @@ def declared(level):
             is_local = b"static" in part.words
             if b"typedef" in part.words:
                 if level.brace is None and (name or prototype):
-                    yield (name or prototype).token, b"t", False
+                    yield (prototype or name).token, b"t", False
             elif level.brace is not None:
                 if name:
                     yield name.token, b"m", False

@@ -436,7 +436,7 @@ class Pass:
             return
         if known.typedef:
             if len(self.stack) == 1:
-                self.named.append((name or prototype, b"t", False))
+                self.named.append((prototype or name, b"t", False))
         elif len(self.stack) > 1:
             if name:
                 self.named.append((name, b"m", False, top.scope))

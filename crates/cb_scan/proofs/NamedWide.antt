@@ -123,10 +123,10 @@ module _ (text : List ℕ) where
   typedef-named : (p : Part) → IsPartSound p → AllByRecursion (IsDefNamed text) (typedef_of p)
   typedef-named p all =
       elim (defines_type p) as (λ b. AllByRecursion (IsDefNamed text) (cond b
-      (def_if kind.Typedef false (option_or (part_name p) (prototype_name p))) [])) [
-        | true ↦ if-named kind.Typedef false (option_or (part_name p) (prototype_name p))
-            (or-has (λ x. IsNameOf text x.token.span) (part_name p) (prototype_name p)
-            (part-named p all) (prototype-named p all))
+      (def_if kind.Typedef false (option_or (prototype_name p) (part_name p))) [])) [
+        | true ↦ if-named kind.Typedef false (option_or (prototype_name p) (part_name p))
+            (or-has (λ x. IsNameOf text x.token.span) (prototype_name p) (part_name p)
+            (prototype-named p all) (part-named p all))
         | false ↦ tt
       ]
 

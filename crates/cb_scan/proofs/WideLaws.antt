@@ -85,8 +85,8 @@ module _ (text : List ℕ) (ps : List Piece) where
   typedefs_are : (p : Part) → AllByRecursion Beside (typedef_of p)
   typedefs_are p =
       elim (defines_type p) as (λ b. AllByRecursion Beside
-      (cond b (def_if kind.Typedef false (option_or (part_name p) (prototype_name p))) [])) [
-        | true ↦ named (option_or (part_name p) (prototype_name p))
+      (cond b (def_if kind.Typedef false (option_or (prototype_name p) (part_name p))) [])) [
+        | true ↦ named (option_or (prototype_name p) (part_name p))
         | false ↦ tt
       ]
     where

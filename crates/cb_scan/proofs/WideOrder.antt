@@ -80,8 +80,8 @@ module _ (Q : Def → Type 0) where
 typedef_other : (p : Part) → AllByRecursion Other (typedef_of p)
 typedef_other p =
     elim (defines_type p) as (λ b. AllByRecursion Other
-    (cond b (def_if kind.Typedef false (option_or (part_name p) (prototype_name p))) []))
-    [ true ↦ if_some Other kind.Typedef false (λ t. refl) (option_or (part_name p) (prototype_name p)) | false ↦ tt ]
+    (cond b (def_if kind.Typedef false (option_or (prototype_name p) (part_name p))) []))
+    [ true ↦ if_some Other kind.Typedef false (λ t. refl) (option_or (prototype_name p) (part_name p)) | false ↦ tt ]
 
 tag_kind_other : (k : Kind) → is_object (kind_of_tag k) ≡ false
 tag_kind_other kind.Function = refl

@@ -148,9 +148,9 @@ module _ (text : List ℕ) where
   typedef_lies : (p : Part) → PartLies p → AllByRecursion DefLies (typedef_of p)
   typedef_lies p all =
       elim (defines_type p) as (λ b. AllByRecursion DefLies (cond b
-      (def_if kind.Typedef false (option_or (part_name p) (prototype_name p))) [])) [
-        | true ↦ if_named kind.Typedef false (option_or (part_name p) (prototype_name p))
-            (either (part_name p) (prototype_name p) (name_if Lies p all) (prototype_if Lies p all))
+      (def_if kind.Typedef false (option_or (prototype_name p) (part_name p))) [])) [
+        | true ↦ if_named kind.Typedef false (option_or (prototype_name p) (part_name p))
+            (either (prototype_name p) (part_name p) (prototype_if Lies p all) (name_if Lies p all))
         | false ↦ tt
       ]
     where

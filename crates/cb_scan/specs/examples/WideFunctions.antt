@@ -35,13 +35,21 @@ pub functions_named_as_prototypes
 unfolding seeing
 functions_named_as_prototypes = refl
 
--- the name of a part, or that of a prototype
+-- the name of a prototype, or that of a part
 pub typedefs_named_as_prototypes
     : rows (codes "typedef void (a)(int); typedef int (*b) OF((int)); typedef int c(int (*d"
     ++ codes ")(void)), *e;")
     ≡ codes "t a" ∷ codes "t b" ∷ codes "t c" ∷ codes "t e" ∷ []
 unfolding seeing
 typedefs_named_as_prototypes = refl
+
+-- words before and after the name of a prototype do not hide it
+pub typedefs_among_macros
+    : rows (codes "typedef void handler(int) UNUSED; typedef void cb(void *p) __unused, *cbp;"
+    ++ codes " typedef NTSTATUS NTAPI DRIVER_INITIALIZE(int);")
+    ≡ codes "t handler" ∷ codes "t cb" ∷ codes "t cbp" ∷ codes "t DRIVER_INITIALIZE" ∷ []
+unfolding seeing
+typedefs_among_macros = refl
 
 -- the last of the words and stars in parentheses
 pub typedefs_of_called_pointers

@@ -82,10 +82,10 @@ content_defs bs ps b =
 abbrev pub file_parts : List Body → List Placed → List Part
 file_parts bs ps = flat_map naming_parts (file_declarations bs (file_level ps))
 
--- the type that a part names: by its name, or else by that of a prototype
+-- the type that a part names: by the name of its prototype, or else by its own
 abbrev pub typedef_of : Part → List Def
 typedef_of p =
-    if defines_type p then def_if kind.Typedef false (option_or (part_name p) (prototype_name p))
+    if defines_type p then def_if kind.Typedef false (option_or (prototype_name p) (part_name p))
     else []
 
 -- a variable, or an external declaration: of `extern` and without a value

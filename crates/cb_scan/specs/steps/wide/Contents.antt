@@ -1,6 +1,7 @@
 -- What the bodies of structures, unions and enumerations define, a token at a time.
 use Rattle.std.specs.Prelude.{◌≡◌, ℕ, Bool, true, false, List, [], ◌∷◌, ◌++◌, drop, max, reverse}
-use Rattle.std.specs.Prelude.{Option, Some, None, if◌then◌else◌}
+use Rattle.std.specs.Prelude.{Option, Some, None, if◌then◌else◌, replicate}
+use Rattle.std.specs.List.{AllByRecursion, flat_map}
 use Rattle.std.specs.Option.{option_map_or}
 use Rattle.cb_scan.specs.declared.rules.wide.declaration.Declaration.{Declaration}
 use Rattle.cb_scan.specs.declared.facts.Tag.{Tag}
@@ -8,6 +9,7 @@ use Rattle.cb_scan.specs.declared.facts.Def.{Def}
 use Rattle.cb_scan.specs.declared.facts.Kind.TheVariants as kind
 use Rattle.cb_scan.specs.declared.rules.wide.level.Level.{Level}
 use Rattle.cb_scan.specs.declared.rules.wide.level.Level.TheVariants.{Block, Enumerators, Members}
+use Rattle.cb_scan.specs.declared.rules.wide.levels.Body.{Body}
 use Rattle.cb_scan.specs.declared.rules.wide.opening.Opening.{Opening}
 use Rattle.cb_scan.specs.declared.rules.wide.token.WideToken.{WideToken}
 use Rattle.cb_scan.specs.rules.wide.Kinds.{def_in}
@@ -101,12 +103,29 @@ abbrev pub are_in_block : List Level → Bool
 are_in_block (Block ∷ ls) = true
 are_in_block _ = false
 
--- the levels, where the innermost is kept apart
-abbrev pub levels_of : Option Level → List Level → List Level
-levels_of None around = []
-levels_of (Some l) around = l ∷ reverse around
+-- a level is the body of a structure, union or enumeration
+abbrev pub is_body : Level → Bool
+is_body Block = false
+is_body _ = true
 
--- there are levels around only where there is an innermost one
-abbrev pub AreAround : Option Level → List Level → Type 0
-AreAround None around = around ≡ []
-AreAround (Some l) around = Unit {0}
+-- ---- the levels as they are kept: blocks are counted
+
+-- a body, and the blocks directly around it
+abbrev pub levels_in : Body → List Level
+levels_in b = b.level ∷ replicate b.blocks Block
+
+-- the innermost body, and what is around it
+abbrev pub bodies_of : Option Body → List Body → List Level
+bodies_of None around = []
+bodies_of (Some b) around = levels_in b ++ flat_map levels_in (reverse around)
+
+-- the blocks inside the innermost body, and that body with what is around it
+abbrev pub levels_of : ℕ → Option Body → List Body → List Level
+levels_of blocks first around = replicate blocks Block ++ bodies_of first around
+
+-- each level that is not counted is a body, and some are around only where there is an innermost
+-- one
+abbrev pub AreBodies : Option Body → List Body → Type 0
+AreBodies None around = around ≡ []
+AreBodies (Some b) around =
+    (is_body b.level ≡ true) × AllByRecursion (λ (c : Body). is_body c.level ≡ true) around

@@ -8,10 +8,10 @@ use Rattle.cb_scan.specs.declared.rules.wide.token.WideToken.{WideToken}
 use Rattle.cb_scan.specs.rules.wide.Kinds.{def_if, def_of}
 use Rattle.cb_scan.specs.steps.wide.Declarations.{Given}
 
--- the type that a part gives: by its name, or else by that of a prototype
+-- the type that a part gives: by the name of its prototype, or else by its own
 abbrev pub typedef_given : Given → List Def
 typedef_given g =
-    if g.of_type then def_if kind.Typedef false (option_or g.name g.function) else []
+    if g.of_type then def_if kind.Typedef false (option_or g.function g.name) else []
 
 -- a variable, or an external declaration: of `extern` and without a value
 abbrev pub variable_kind : Given → Kind

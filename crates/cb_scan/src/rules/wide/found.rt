@@ -37,20 +37,16 @@ impl Model for Found {
     } };
 }
 
-/// The type that the part gives which ends here.
+/// The type that the part gives which ends here: by its prototype's name, or else by its own.
 fn typedef_given(declaration: &Declaration) -> Option<Def>
     ensures { option_to_list result ≡ typedef_given (given declaration.now) }
 {
     if !declaration.has_typedef {
         return None;
     }
-    match declaration.part.named() {
-        Some(name) => Some(def_of(Kind::Typedef, false, &name.token)),
-        None => match declaration.part.function() {
-            Some(name) => Some(def_of(Kind::Typedef, false, &name.token)),
-            None => None,
-        },
-    }
+    let part = &declaration.part;
+    let name = part.function().or(part.named())?;
+    Some(def_of(Kind::Typedef, false, &name.token))
 }
 
 /// A variable, or an external declaration: of `extern` and without a value.

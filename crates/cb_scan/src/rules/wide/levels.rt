@@ -1,5 +1,6 @@
 //! The levels that are open, the innermost first.
-ghost use Rattle.std.specs.Prelude.{◌≡◌, ◌+◌, ◌<◌, ◌≤◌, ◌^◌, ◌∷◌, [], drop, true, IfOk};
+ghost use Rattle.std.specs.Prelude.{◌≡◌, ◌+◌, ◌<◌, ◌≤◌, ◌^◌, ◌∷◌, [], drop, false, true};
+ghost use Rattle.std.specs.Prelude.{IfOk};
 ghost use Rattle.std.specs.Option.{option_to_list};
 ghost use Rattle.cb_scan.specs.steps.wide.Contents.{are_in_block, closed_by, defined_by};
 ghost use Rattle.cb_scan.specs.steps.wide.Contents.{first_goes_on, most_open, tag_inside};
@@ -10,26 +11,32 @@ use crate::rules::wide::token::WideToken;
 use std::alloc::{AllocError, Global};
 use std::marker::Model;
 
-/// The innermost level, and those around it, the outermost first.
+/// A body that is open, and how many blocks are directly around it.
+#[derive(Clone, Copy)]
+pub(crate) struct Body {
+    level: Level,
+    blocks: u32,
+}
+
+/// How many blocks are open inside the innermost body, that body, and those around it, the
+/// outermost first. A block is counted alone, so that braces in braces take no memory.
 #[derive(Drop)]
 pub(crate) struct Levels {
-    first: Option<Level>,
-    around: Vec<Level>,
-    /// Whether the innermost level is a block. It is looked at for every token.
-    in_block: bool,
+    blocks: u32,
+    first: Option<Body>,
+    around: Vec<Body>,
 }
 
 impl Model for Levels {
-    ghost use Rattle.std.specs.Prelude.{◌≡◌, List};
+    ghost use Rattle.std.specs.Prelude.{List};
     ghost use Rattle.cb_scan.specs.declared.rules.wide.level.Level.{Level};
-    ghost use Rattle.cb_scan.specs.steps.wide.Contents.{AreAround, are_in_block, levels_of};
+    ghost use Rattle.cb_scan.specs.steps.wide.Contents.{AreBodies, levels_of};
 
     ghost Value = { List Level };
 
-    ghost view = { λ l. levels_of l.first l.around.items };
+    ghost view = { λ l. levels_of l.blocks l.first l.around.items };
 
-    ghost invariant = { λ l. AreAround l.first l.around.items
-        × (l.in_block ≡ are_in_block (levels_of l.first l.around.items)) };
+    ghost invariant = { λ l. AreBodies l.first l.around.items };
 }
 
 impl Levels {
@@ -37,9 +44,9 @@ impl Levels {
         ensures { result ≡ [] }
     {
         Levels {
+            blocks: 0,
             first: None,
             around: Vec::new(alloc),
-            in_block: false,
         }
     }
 
@@ -48,7 +55,7 @@ impl Levels {
     pub(crate) fn are_none(&self) -> bool
         ensures { result ≡ true → self.now ≡ [] }
     {
-        self.first.is_none()
+        self.blocks == 0 && self.first.is_none()
     }
 
     /// The innermost level is a block.
@@ -56,7 +63,7 @@ impl Levels {
     pub(crate) fn are_in_block(&self) -> bool
         ensures { result ≡ are_in_block self.now }
     {
-        self.in_block
+        self.blocks > 0
     }
 
     /// The tag around members that are directly inside.
@@ -64,8 +71,8 @@ impl Levels {
         ensures { result ≡ tag_inside self.now }
     {
         match &self.first {
-            Some(level) => level.member_tag(),
-            None => None,
+            Some(body) if self.blocks == 0 => body.level.member_tag(),
+            _ => None,
         }
     }
 
@@ -73,54 +80,50 @@ impl Levels {
     pub(crate) fn open(&mut self, level: Level) -> Result<(), AllocError>
         ensures { IfOk result (λ _. self.new ≡ level ∷ self.old) }
     {
-        match self.first {
-            Some(Level::Block) => self.around.push(Level::Block)?,
-            Some(around) => self.around.push(around)?,
-            None => {}
+        if matches!(level, Level::Block) {
+            return self.open_block();
         }
-        self.first = Some(level);
-        self.in_block = matches!(level, Level::Block);
+        if let Some(around) = self.first {
+            self.around.push(around)?;
+        }
+        self.first = Some(Body {
+            level,
+            blocks: self.blocks,
+        });
+        self.blocks = 0;
         Ok(())
     }
 
-    /// After a `{` that makes a block. Most are in a block.
+    /// After a `{` that makes a block. More than can be counted are refused, as memory is.
     #[inline(always)]
     pub(crate) fn open_block(&mut self) -> Result<(), AllocError>
         ensures { IfOk result (λ _. self.new ≡ Level.Block ∷ self.old) }
     {
-        if self.in_block {
-            self.around.push(Level::Block)?;
-            return Ok(());
-        }
-        self.open(Level::Block)
+        self.blocks = self.blocks.checked_add(1).ok_or(AllocError)?;
+        Ok(())
     }
 
-    /// Without the innermost level, whichever it is and whatever is around it.
+    /// Without the innermost body, where no block is open in it.
     #[inline(never)]
-    fn leave_any(&mut self)
+    fn leave_body(&mut self)
+        requires { are_in_block self.old ≡ false }
         ensures { self.new ≡ drop 1 self.old }
     {
-        match self.around.pop() {
-            Some(Level::Block) => {
-                self.first = Some(Level::Block);
-                self.in_block = true;
-            }
-            first => {
-                self.first = first;
-                self.in_block = false;
-            }
+        if let Some(body) = self.first {
+            self.blocks = body.blocks;
+            self.first = self.around.pop();
         }
     }
 
-    /// Without the innermost level. Mostly that is a block inside a block: then no level is copied.
+    /// Without the innermost level, which is mostly a block.
     #[inline(always)]
     pub(crate) fn leave(&mut self)
         ensures { self.new ≡ drop 1 self.old }
     {
-        if self.in_block && matches!(self.around.last(), Some(Level::Block)) {
-            self.around.pop();
+        if self.blocks > 0 {
+            self.blocks -= 1;
         } else {
-            self.leave_any();
+            self.leave_body();
         }
     }
 
@@ -129,9 +132,9 @@ impl Levels {
         ensures { self.new ≡ closed_by item.now self.old }
     {
         if item.token.starts_line {
+            self.blocks = 0;
             self.first = None;
             self.around.clear();
-            self.in_block = false;
         } else {
             self.leave();
         }
@@ -143,7 +146,9 @@ impl Levels {
         ensures { option_to_list result ≡ defined_by self.now ahead.now item.now }
     {
         match &self.first {
-            Some(level) if !item.role.is_sign(b'}') => level.found(ahead, item),
+            Some(body) if self.blocks == 0 && !item.role.is_sign(b'}') => {
+                body.level.found(ahead, item)
+            }
             _ => None,
         }
     }
@@ -155,8 +160,9 @@ impl Levels {
         ensures value { self.new ≡ first_goes_on self.old ahead.now item.now }
         ensures small { most_open self.new ≤ most_open self.old + 1 }
     {
-        if let Some(level) = &mut self.first {
-            level.add(ahead, item);
+        match &mut self.first {
+            Some(body) if self.blocks == 0 => body.level.add(ahead, item),
+            _ => {}
         }
     }
 }

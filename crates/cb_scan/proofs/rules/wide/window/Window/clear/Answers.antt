@@ -1,5 +1,5 @@
 -- No token that is of no attribute is left.
-use Rattle.std.proofs.Common.{◌∙◌, ◌≡◌, ◌-◌, [], ap, arith, drop, take}
+use Rattle.std.proofs.Common.{◌≡◌, ◌-◌, ap, arith, drop, take}
 use Rattle.cb_scan.proofs.rules.wide.window.Window.clear.Goals as goal
 
 pub returns : goal.returns
