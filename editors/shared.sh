@@ -103,7 +103,7 @@ open_nameless() {
 }
 
 # Sets the file to write: where a link leads, or this name. A file that is there and not empty has
-# to be of a kind, which is_own tells of standard input, or `force` is set.
+# to be of a kind, if `force` is not set: is_own looks at its text.
 aim() { # NAME KIND OPTION
     aimed=$1 out=$1
     case $out in -*) out=./$out ;; esac
