@@ -9,7 +9,7 @@ Git     files that git knows and new ones are listed, also those of a submodule;
 Foreign work trees whose settings name a command for each key that takes one: in their own settings,
         those of a work tree, included ones, those that a `.git` file leads to, and those of a
         submodule. None runs, where git by itself runs some. An index that names files outside the
-        tree brings none of them in
+        tree brings none of them in. Pipes that git would read hold it up for a while only
 Odd     names with signs of a shell are listed. Names with a blank, a `$`, a backquote, a line feed,
         outside ASCII or too long, and files that are too large are left out, and told with how many
         they are
@@ -227,6 +227,19 @@ def foreign(place: Spied) -> None:
         by_itself = runs(root)
         wanted = {"remote.first.url", "core.sshCommand", "remote.third.uploadpack"}
         check("git by itself runs some", wanted & by_itself != set(), by_itself)
+    place.put("bin/timeout", f'#!/bin/sh\nshift\nexec {shutil.which("timeout")} 1 "$@"\n')
+    (place.folder / "bin/timeout").chmod(0o755)
+    for name in ".gitignore", ".git/index", ".git/config":
+        root = trees / f"pipe {name.strip('.').replace('/', ' ')}"
+        place.put(f"{root}/a.c")
+        git(root, "init")
+        git(root, "add", "a.c")
+        place.put(f"{root}/late.c")
+        (root / name).unlink(missing_ok=True)
+        os.mkfifo(root / name)
+        path = f"{place.folder}/bin:{os.environ['PATH']}"
+        names, _, said = place.listed("--root", root, PATH=path)
+        check(f"a pipe {name}", (names, said) == (["a.c", "late.c"], ""), (names, said))
     outside = trees / "outside"
     for name in "a.c", "A1/x.c", "Betc/x.c":
         place.put(f"{outside}/{name}")
