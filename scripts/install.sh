@@ -59,8 +59,10 @@ pack=pack/cbrowse/start/cbrowse
 vim=$share/vim/vimfiles/$pack
 put 755 bin/cbrowse "$prefix/bin/cbrowse"
 for name in $companions; do
-    put 755 "editors/$name" "$prefix/bin/$name"
+    put 755 "editors/$name" "$prefix/lib/cbrowse/$name"
+    link "../lib/cbrowse/$name" "$prefix/bin/$name"
 done
+put 644 editors/shared.sh "$prefix/lib/cbrowse/shared.sh"
 for name in cbrowse $companions; do
     put 644 "man/$name.1" "$share/man/man1/$name.1"
     put 644 "editors/completions/$name.fish" "$share/fish/vendor_completions.d/$name.fish"

@@ -4,12 +4,14 @@ from __future__ import annotations
 
 import argparse
 import collections
+import contextlib
 import os
 import pathlib
 import re
+import socket
 import subprocess
 import time
-from typing import Iterable, Optional, Sequence
+from typing import Iterable, Iterator, Optional, Sequence
 
 TOP = pathlib.Path(__file__).resolve().parent.parent
 MOST_BYTES = 1_000_000  # of a file, where nothing else is said
@@ -184,3 +186,43 @@ class Place:
             capture_output=True,
         )
         return done.returncode, done.stdout, done.stderr.decode()
+
+    def writes(self, *words: object, below: str = ".") -> list[bytes]:
+        """What it writes to standard error, write by write: a datagram each."""
+        near, far = socket.socketpair(socket.AF_UNIX, socket.SOCK_DGRAM)
+        with near, far:
+            subprocess.run(
+                ["sh", self.script, *map(str, words)],
+                cwd=self.folder / below,
+                env=self.settings(),
+                stdout=subprocess.DEVNULL,
+                stderr=far,
+            )
+            near.settimeout(0)
+            found = []
+            with contextlib.suppress(BlockingIOError):
+                while True:
+                    found.append(near.recv(65536))
+        return found
+
+
+@contextlib.contextmanager
+def small_disk(folder: pathlib.Path, kilobytes: int) -> Iterator[bool]:
+    """A folder of this size; false where nothing can be mounted, as without root."""
+    words = ["mount", "-t", "tmpfs", "-o", f"size={kilobytes}k", "tmpfs", str(folder)]
+    is_root = os.geteuid() == 0
+    if not is_root or subprocess.run(words, stderr=subprocess.DEVNULL).returncode:
+        print("       a full disk is not tried: nothing can be mounted here")
+        yield False
+        return
+    try:
+        yield True
+    finally:
+        subprocess.run(["umount", str(folder)], check=True)
+
+
+def fill(folder: pathlib.Path) -> None:
+    """Takes all room that is left on a disk."""
+    with open(folder / "filled", "wb", buffering=0) as file, contextlib.suppress(OSError):
+        while True:
+            file.write(b"x" * 4096)

@@ -3,7 +3,7 @@
 complete -c cbrowse-graph -l callees -d 'what NAME calls, and no callers'
 complete -c cbrowse-graph -l callers -d 'what calls NAME, and no callees'
 complete -c cbrowse-graph -l depth -x -d 'goes N calls far, 2 by default'
-complete -c cbrowse-graph -l nodes -x -d 'shows at most N names, 100 by default; what is cut off is told'
+complete -c cbrowse-graph -l nodes -x -d 'shows at most N names, 100 by default, and says how many are cut off'
 complete -c cbrowse-graph -l standard -d 'finds by the standard profile, as in cbrowse-tree'
 complete -c cbrowse-graph -s L -r -d 'takes names from a file too, as in cbrowse-tree'
 complete -c cbrowse-graph -l exclude -x -d 'leaves files and folders out, as in cbrowse-tree'

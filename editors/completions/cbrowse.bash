@@ -61,7 +61,7 @@ _cbrowse() {
         'cbrowse help') words='' ;;
         'cbrowse-tree') words='-f --format -x --standard --prototypes -L --questions --exclude -j --all --force --verbose --no-progress -S --sshloginfile --transfer -h --help --version' ;;
         'cbrowse-tree find') words='-f --format -x --standard --prototypes -L --questions --exclude -j --all --force --verbose --no-progress -S --sshloginfile --transfer -h --help --version' ;;
-        'cbrowse-cscope') words='-b -l -L -f -i -R -d -P -A --standard -W -h --help --version' ;;
+        'cbrowse-cscope') words='-b -l -L -f -i -R -d -P -A --standard -W --force -h --help --version' ;;
         'cbrowse-graph') words='--callees --callers --depth --nodes --standard -L --exclude -j -h --help --version' ;;
         'cbrowse-lsp') words='--root --standard --prototypes --max-files --max-file-bytes -h --help --version' ;;
         esac ;;

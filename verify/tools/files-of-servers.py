@@ -6,8 +6,13 @@
 
 Git     files that git knows and new ones are listed, also those of a submodule; ignored and
         deleted ones and links are not. A folder in which git knows nothing is listed as it is
-Odd     names with signs of a shell are listed. Names with a blank, outside ASCII or too long, and
-        files that are too large are left out, and told with how many they are
+Foreign work trees whose settings name a command for each key that takes one: in their own settings,
+        those of a work tree, included ones, those that a `.git` file leads to, and those of a
+        submodule. None runs, where git by itself runs some. An index that names files outside the
+        tree brings none of them in. Pipes that git would read hold it up for a while only
+Odd     names with signs of a shell are listed. Names with a blank, a `$`, a backquote, a line feed,
+        outside ASCII or too long, and files that are too large are left out, and told with how many
+        they are
 Bounds  --max-files and --max-file-bytes leave out more, and are handed on
 Profile --wide is handed on by default and not with --standard; --prototypes is handed on with it
 Root    is the folder without links in its path; --root names another one
@@ -19,8 +24,11 @@ Many    4,096 files are listed in 0.3 s, of three times the fastest
 
 from __future__ import annotations
 
+import hashlib
+import json
 import os
 import pathlib
+import shutil
 import subprocess
 import sys
 import tempfile
@@ -35,7 +43,50 @@ printf '%s\\n' "$*"
 while IFS= read -r name <&4; do printf '%s\\n' "$name"; done
 cat
 """
-SIGNS = ("-x.c", "*.c", "[a].c", "b\\c.c", "q'.c", 'q".h', "$(id).c", "!.c", "(.c", ",.h", ".c")
+SIGNS = ("-x.c", "*.c", "[a].c", "b\\c.c", "q'.c", 'q".h', "!.c", "(.c", ",.h", ".c")
+# Settings that name a command, each with what takes its place before the path of the trap.
+COMMANDS = {
+    "core.alternateRefsCommand": "",
+    "core.askPass": "",
+    "core.editor": "",
+    "core.fsmonitor": "",
+    "core.gitProxy": "",
+    "core.pager": "",
+    "core.sshCommand": "",
+    "alias.ls-files": "!",
+    "pager.ls-files": "",
+    "credential.helper": "!",
+    "diff.external": "",
+    "diff.trap.command": "",
+    "diff.trap.textconv": "",
+    "merge.trap.driver": "",
+    "filter.trap.clean": "",
+    "filter.trap.smudge": "",
+    "filter.trap.process": "",
+    "gpg.program": "",
+    "gpg.ssh.defaultKeyCommand": "",
+    "interactive.diffFilter": "",
+    "sequence.editor": "",
+    "submodule.module.update": "!",
+    "trailer.trap.command": "",
+    "uploadpack.packObjectsHook": "",
+    "web.browser": "",
+    "remote.first.url": "ext::",
+    "remote.third.uploadpack": "",
+}
+SETTINGS = {
+    "core.untrackedCache": "true",
+    "protocol.allow": "always",
+    "extensions.partialClone": "first",
+    "remote.first.promisor": "true",
+    "remote.second.promisor": "true",
+    "remote.second.url": "ssh://127.0.0.1/way",
+    "remote.third.promisor": "true",
+    "remote.third.url": "/",
+    "remote.fourth.promisor": "true",
+    "remote.fourth.url": "git://127.0.0.1/way",
+}
+HOOKS = ("post-index-change", "post-checkout", "pre-auto-gc", "reference-transaction")
 report = Report()
 check = report.check
 
@@ -83,21 +134,148 @@ def in_git(place: Spied) -> None:
     check("a folder that git ignores", (names, said) == (["i.c"], ""), (names, said))
 
 
+def set_traps(place: Spied, root: pathlib.Path, form: str, is_sparse: bool = False) -> None:
+    """A work tree of this form, whose settings name the trap.
+
+    If it is sparse, its index needs an object that is missing.
+    """
+    place.put(f"{root}/a.c")
+    place.put(f"{root}/late.c")
+    place.put(f"{root}/away/b.c")
+    place.put(f"{root}/.gitattributes", "*.c filter=trap diff=trap merge=trap\n")
+    git(root, "init")
+    git(root, "add", "a.c", "away", ".gitattributes")
+    git(root, "commit", "-m", "Files")
+    inner, settings = root / ".git", root / ".git/config"
+    folder = inner
+    if is_sparse:
+        words = ["git", "rev-parse", "HEAD:away"]
+        tree = subprocess.run(words, cwd=root, capture_output=True, check=True).stdout.decode()
+        git(root, "sparse-checkout", "set", "--cone", "--sparse-index", "none")
+        (inner / "objects" / tree[:2] / tree[2:].strip()).unlink()
+    if form == "of a work tree":
+        git(root, "config", "core.repositoryFormatVersion", "1")
+        git(root, "config", "extensions.worktreeConfig", "true")
+        settings = inner / "config.worktree"
+    elif form == "included":
+        settings = root / "included"
+        git(root, "config", "include.path", "../included")
+    elif form == "elsewhere":
+        folder = root.parent / f"{root.name}.git"
+        inner.rename(folder)
+        inner.write_text(f"gitdir: ../{folder.name}\n")
+        settings = folder / "config"
+    elif form == "of a submodule":
+        git(root, "submodule", "add", "../own", "module")
+        folder = inner / "modules/module"
+        settings = folder / "config"
+    trap, hooks = place.folder / "trap", place.folder / "hooks"
+    for key, before in COMMANDS.items():
+        command = f"{before}{trap} {key}"
+        subprocess.run(["git", "config", "--file", settings, key, command], check=True)
+    for key, value in {**SETTINGS, "core.hooksPath": str(hooks)}.items():
+        subprocess.run(["git", "config", "--file", settings, key, value], check=True)
+    for there in hooks, folder / "hooks":
+        there.mkdir(exist_ok=True)
+        for hook in HOOKS:
+            (there / hook).write_text(f"#!/bin/sh\nexec {trap} {hook}\n")
+            (there / hook).chmod(0o755)
+
+
+def foreign(place: Spied) -> None:
+    """Work trees whose settings name commands."""
+    ran = place.folder / "ran"
+    place.put("trap", f"#!/bin/sh\nprintf '%s\\n' \"$1\" >>{ran}\nexit 1\n")
+    (place.folder / "trap").chmod(0o755)
+    trees = place.folder / "trees"
+    forms = ["own", "of a work tree", "included", "elsewhere", "of a submodule"]
+
+    def taken(root: pathlib.Path) -> tuple[list[str], set[str], set[str]]:
+        """The names of the list, the traps that ran, and the programs that git started."""
+        trace = place.folder / "trace"
+        names, _, _ = place.listed("--root", root, GIT_TRACE2_EVENT=trace)
+        events = [json.loads(line) for line in trace.read_text().splitlines()]
+        started = {it["argv"][0] for it in events if it["event"] == "child_start"}
+        found = set(ran.read_text().split()) if ran.exists() else set()
+        ran.unlink(missing_ok=True)
+        trace.unlink()
+        return names, found, started - {"git"}
+
+    def runs(root: pathlib.Path) -> set[str]:
+        """The traps that run where git is asked without care."""
+        for words in ["--cached", "--recurse-submodules"], ["--others", "--exclude-standard"]:
+            subprocess.run(["git", "ls-files", *words], cwd=root, capture_output=True)
+        found = set(ran.read_text().split()) if ran.exists() else set()
+        ran.unlink(missing_ok=True)
+        return found
+
+    for form in forms:
+        root = trees / form
+        set_traps(place, root, form)
+        names = ["a.c", "away/b.c", "late.c"]
+        if form == "of a submodule":
+            names += ["module/a.c", "module/away/b.c"]
+        found = taken(root)
+        check(f"settings: {form}", found == (names, set(), set()), found)
+        by_itself = runs(root)
+        check("git by itself runs some", "core.fsmonitor" in by_itself, by_itself)
+    for form in forms[:-1]:
+        root = trees / f"sparse {form}"
+        set_traps(place, root, form, is_sparse=True)
+        found = taken(root)
+        check(f"an object is missing: {form}", found == (["a.c", "late.c"], set(), set()), found)
+        by_itself = runs(root)
+        wanted = {"remote.first.url", "core.sshCommand", "remote.third.uploadpack"}
+        check("git by itself runs some", wanted & by_itself != set(), by_itself)
+    place.put("bin/timeout", f'#!/bin/sh\nshift\nexec {shutil.which("timeout")} 1 "$@"\n')
+    (place.folder / "bin/timeout").chmod(0o755)
+    for name in ".gitignore", ".git/index", ".git/config":
+        root = trees / f"pipe {name.strip('.').replace('/', ' ')}"
+        place.put(f"{root}/a.c")
+        git(root, "init")
+        git(root, "add", "a.c")
+        place.put(f"{root}/late.c")
+        (root / name).unlink(missing_ok=True)
+        os.mkfifo(root / name)
+        path = f"{place.folder}/bin:{os.environ['PATH']}"
+        names, _, said = place.listed("--root", root, PATH=path)
+        check(f"a pipe {name}", (names, said) == (["a.c", "late.c"], ""), (names, said))
+    outside = trees / "outside"
+    for name in "a.c", "A1/x.c", "Betc/x.c":
+        place.put(f"{outside}/{name}")
+    git(outside, "init")
+    git(outside, "add", "--all")
+    index = (outside / ".git/index").read_bytes()[:-20]
+    index = index.replace(b"A1/x.c", b"../x.c").replace(b"Betc/x.c", b"/etc/x.c")
+    (outside / ".git/index").write_bytes(index + hashlib.sha1(index).digest())
+    shutil.rmtree(outside / "A1")
+    (outside / "Betc").rename(outside / "etc")
+    place.put("trees/x.c")
+    names, _, said = place.listed("--root", outside)
+    expected = (["a.c", "etc/x.c"], left(2, "with a bad name"))
+    check("an index with names outside the tree", (names, said) == expected, (names, said))
+
+
 def odd_names(place: Spied) -> None:
-    for name in SIGNS + ("a b.c", "\u00e9.c", "d/" + "n" * 252 + ".c"):
+    for name in SIGNS + ("a b.c", "\u00e9.c", "$(id).c", "`id`.c", "d/" + "n" * 252 + ".c"):
         place.put(f"odd/{name}")
     (place.folder / "odd/d.c").mkdir()
     (place.folder / "odd/large.c").write_bytes(b"\n" * 1_000_001)
     (place.folder / "odd/fits.c").write_bytes(b"\n" * 1_000_000)
-    told = left(3, "with a bad name", 1, "too large or not to be read")
+    large = (1, "too large or not to be read")
+    told = left(5, "with a bad name", *large)
     expected = sorted((*SIGNS, "fits.c"))
     for what in "without git", "with git":
         names, _, said = place.listed(below="odd")
         check(f"odd names, {what}", (names, said) == (expected, told), (names, said))
         git(place.folder / "odd", "init")
     place.put("odd/line\nfeed.c")
-    names, _, said = place.listed(below="odd")
-    check("a line feed in a name", (names, said) == (expected, told), (names, said))
+    place.put("odd/line\n/etc/fits.c")
+    told = left(7, "with a bad name", *large)
+    for what in "with git", "without git":
+        names, _, said = place.listed(below="odd")
+        check(f"line feeds in names, {what}", (names, said) == (expected, told), (names, said))
+        shutil.rmtree(place.folder / "odd/.git", ignore_errors=True)
 
 
 def bounds(place: Spied) -> None:
@@ -172,6 +350,12 @@ def input_and_ends(place: Spied) -> None:
     status, _, said = place.run(below="ends", CBROWSE="/nowhere/cbrowse")
     told = "cbrowse-lsp: /nowhere/cbrowse: no such program\n"
     check("no program", (status, said) == (1, told), (status, said))
+    status, _, said = place.run(below="ends", TMPDIR="/nowhere")
+    told = "cbrowse-lsp: /nowhere: no temporary file can be made\n"
+    check("no temporary folder", (status, said) == (1, told), (status, said))
+    found = place.writes("--root", "\033[2J")
+    told = [b"cbrowse-lsp: \\x1b[2J: no such folder\n"]
+    check("a message is one write, without control bytes", found == told, found)
     status, out, said = place.run("--version")
     check("--version", status == 0 and out.startswith(b"cbrowse-lsp of cbrowse "), out)
     status, out, said = place.run("--help")
@@ -202,6 +386,7 @@ def main() -> int:
         (place.folder / "spy").write_text(SPY)
         (place.folder / "spy").chmod(0o755)
         in_git(place)
+        foreign(place)
         odd_names(place)
         bounds(place)
         profiles(place)

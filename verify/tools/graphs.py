@@ -9,12 +9,15 @@ and names that are defined nowhere, and for some names of FOLDER, where one is g
 those that so many calls lead to, each call is a row of field 2 or 3, and none is missing; the file
 and the line are those of the first definition that looks like a function or a macro, or else of the
 first one, and its box is that of the file; a call is red exactly where the picture has a way back.
-With --standard all this is so by the standard profile. A picture that is cut says so.
+With --standard all this is so by the standard profile. A picture that is cut says so. Without a
+temporary folder, and where it is full, there is none, the status is 1 and a message says why: each
+size of a small one is tried (as root alone, with `mount`).
 """
 
 from __future__ import annotations
 
 import json
+import os
 import pathlib
 import re
 import subprocess
@@ -22,8 +25,8 @@ import sys
 import tempfile
 
 sys.path.insert(0, str(pathlib.Path(__file__).resolve().parents[1]))
-from shared import MOST_FILES, Place, Report, c_files, copy, spread  # noqa: E402
-from shared import words_given, options  # noqa: E402
+from shared import MOST_FILES, Place, Report, c_files, copy, left_over, small_disk  # noqa: E402
+from shared import options, spread, words_given  # noqa: E402
 
 TREE = {
     "a.c": "#define TWICE(x) (add(x) + add(x))\nint add(int n) {\n\treturn n;\n}\n"
@@ -157,6 +160,30 @@ def cut(place: Place) -> None:
     check("a picture that cannot be written", (full[0], full[2]) == (1, told), full)
 
 
+def without_room(place: Place) -> None:
+    """No temporary folder, and small ones."""
+    status, out, said = place.run("main", "tree", TMPDIR="/nowhere")
+    told = "cbrowse-graph: /nowhere: no temporary folder can be made\n"
+    check("no temporary folder", (status, out, said) == (1, b"", told), (status, out, said))
+    whole = place.run("main", "tree")[1]
+    small = place.folder / "small"
+    small.mkdir()
+    failures = report.failures
+    for blocks in range(1, 60):
+        with small_disk(small, blocks * 4) as is_mounted:
+            if not is_mounted:
+                return
+            status, out, said = place.run("main", "tree", TMPDIR=small)
+            left = left_over(small)
+        if status == 0:
+            check(f"a temporary folder of {blocks * 4} kB is enough", (out, said) == (whole, ""))
+            break
+        last = "".join(said.splitlines()[-1:])
+        if (status, out, left) != (1, b"", []) or not re.match("cbrowse-(tree|graph): ", last):
+            check(f"a temporary folder of {blocks * 4} kB", False, (status, out, said, left))
+    check("small temporary folders", report.failures == failures and blocks > 3, os.listdir(small))
+
+
 def main() -> int:
     parser = options(__doc__)
     parser.add_argument("--names", type=int, default=12)
@@ -174,6 +201,7 @@ def main() -> int:
                     for depth in 1, 2, 4:
                         compare(place, calls, name, ways, depth, "tree")
         cut(place)
+        without_room(place)
         if words.folder:
             files = spread(c_files(words.folder, form="[!-,.-~][!-~]*"), MOST_FILES)
             copy(words.folder, files, place.folder / "real")

@@ -6,25 +6,31 @@
 
 Long    more names than one command can be given, and more than a session takes that is given no
         bounds: all are listed, and all are browsed, by one question and line by line.
-Odd     names with blanks, in quotes or not, and in UTF-8, files that are too large and folders are
-        passed over, and told with how many they are, in each mode.
+Odd     names with blanks, in quotes or not, and in UTF-8, with a backquote, a `$` and a line feed,
+        also of a folder, files that are too large and folders are passed over, and told with how
+        many they are, in each mode.
 None    a folder is no list: an old list stays, and the status is 1.
 Away    a list in another folder is read there, whatever CDPATH says; names that the way to it makes
         too long, or gives a blank, are left out and told.
 Profile a variable is found in each mode, and not with --standard; another long option is refused.
-Ends    no standard input, and no program: status 1, and no temporary folder is left.
-Others  a source and a database of cscope are left alone, unless -W is given.
+Ends    no standard input, no program and no temporary folder: status 1. A session ends by a signal
+        and when the editor goes away. Nothing is left behind.
+Others  a source and a database of cscope are left alone, unless -W or --force is given. What is
+        browsed and an operand are left alone even so, under whatever name. The mode of an old list
+        is kept. On a full disk the old list stays as it was, and two runs at once do not mix.
 """
 
 from __future__ import annotations
 
 import os
 import pathlib
+import signal
+import subprocess
 import sys
 import tempfile
 
 sys.path.insert(0, str(pathlib.Path(__file__).resolve().parents[1]))
-from shared import Place, Report, words_given, options  # noqa: E402
+from shared import Place, Report, fill, left_over, small_disk, words_given, options  # noqa: E402
 
 ROW = b"a.c f 1 int f(void) {\n"
 report = Report()
@@ -85,6 +91,20 @@ def odd_names(place: Place) -> None:
     status, _, heard = place.run("-b", "-i", "names", below="odd")
     lines = (place.folder / "odd/cscope.out").read_text()
     check("names in quotes", (status, lines, heard) == (0, "a.c\nc.h\n", said), (lines, heard))
+    place.put("feeds/a.c")
+    for name in "x\n/etc/a.c", "y\nb.c", "b`id`.c", "$HOME.c", "\033.c":
+        place.put(f"feeds/{name}")
+    said = left(5, "with a bad name")
+    status, _, heard = place.run("-b", "-R", below="feeds")
+    lines = (place.folder / "feeds/cscope.out").read_text()
+    check("line feeds in names", (status, lines, heard) == (0, "a.c\n", said), (lines, heard))
+    status, _, heard = place.run("-b", "y\nb.c", "a.c", below="feeds")
+    lines = (place.folder / "feeds/cscope.out").read_text()
+    said = left(1, "with a bad name")
+    check("a line feed in an operand", (status, lines, heard) == (0, "a.c\n", said), (lines, heard))
+    found = place.writes("-b", "-i", "\033[2J", below="feeds")
+    told = [b"cbrowse-cscope: \\x1b[2J: cannot be read\n"]
+    check("a message is one write, without control bytes", found == told, found)
     for word in "--help", "-h", "--version":
         status, out, heard = place.run(word)
         check(word, status == 0 and out.startswith(b"cbrowse-cscope") and heard == "", heard)
@@ -159,6 +179,10 @@ def ends(place: Place) -> None:
         status == 1 and said == "cbrowse: read fault\n" and not os.listdir(room),
         said,
     )
+    for words in ["-l"], ["-l", "a.c"]:
+        status, _, said = place.run(*words, below="ends", TMPDIR="/nowhere")
+        told = "cbrowse-cscope: /nowhere: no temporary file can be made\n"
+        check("no temporary folder", (status, said) == (1, told), said)
     status, _, said = place.run("-L", "-1", "f", "a.c", below="ends", CBROWSE="/nowhere/cbrowse")
     check(
         "no program",
@@ -167,23 +191,147 @@ def ends(place: Place) -> None:
     )
 
 
+def sessions(place: Place) -> None:
+    """How a session ends, and what it leaves."""
+    room = place.folder / "sessions"
+    room.mkdir()
+
+    def begun() -> subprocess.Popen:
+        running = subprocess.Popen(
+            ["sh", place.script, "-l", "a.c"],
+            cwd=place.folder / "ends",
+            env=place.settings(TMPDIR=room),
+            stdin=subprocess.PIPE,
+            stdout=subprocess.PIPE,
+            stderr=subprocess.STDOUT,
+        )
+        running.stdin.write(b"1f\n")
+        running.stdin.flush()
+        answer = b">> cscope: 1 lines\n" + ROW + b">> "
+        found = running.stdout.read(len(answer))
+        check("a session answers, and has no temporary file", found == answer, found)
+        check("none has a name", os.listdir(room) == [], os.listdir(room))
+        return running
+
+    for number in signal.SIGINT, signal.SIGTERM, signal.SIGHUP:
+        running = begun()
+        running.send_signal(number)
+        found = running.stdout.read()  # up to the end of all that have it
+        check(f"a session and {number.name}", (running.wait(), found) == (1, b""), found)
+        check("nothing is left", os.listdir(room) == [], os.listdir(room))
+    running = begun()
+    running.stdin.close()
+    found = running.stdout.read()
+    check("the editor goes away", (running.wait(), found) == (0, b""), found)
+    place.put("failing", "#!/bin/sh\nexit 3\n")
+    (place.folder / "failing").chmod(0o755)
+    asleep = ["sh", "-c", 'sleep 9 | sh "$0" -l a.c', place.script]
+    found = place.run_by(asleep, below="ends", TMPDIR=room, CBROWSE=place.folder / "failing")
+    check("a program that ends before the editor does", found == (3, b"", ""), found)
+    for wait in range(0, 40, 2):
+        running = subprocess.Popen(
+            ["sh", place.script, "-l", "a.c"],
+            cwd=place.folder / "ends",
+            env=place.settings(TMPDIR=room),
+            stdin=subprocess.PIPE,
+            stdout=subprocess.DEVNULL,
+        )
+        try:
+            running.wait(wait / 1000)
+        except subprocess.TimeoutExpired:
+            running.terminate()
+        running.wait()
+        running.stdin.close()
+    check("a signal at any time leaves nothing", left_over(room) == [], os.listdir(room))
+
+
 def others(place: Place) -> None:
-    """A source or a database of cscope is left alone, unless one says otherwise."""
-    for name, text in ("s.c", "int f(void) {\n}\n"), ("cscope.out", "cscope 15 $HOME -c\n"):
-        place.put("others/a.c")
+    """What stands under the name of the list, and is left alone or replaced."""
+    folder = place.folder / "others"
+    is_none = ": cannot be written: it is not a list (-W replaces it)\n"
+    is_one = ": cannot be written: it is a source or an operand\n"
+
+    def run(name: str, *words: str) -> tuple[int, str, str]:
+        """Status, standard error, and what stands there then."""
+        status, _, said = place.run("-b", "-f", name, *words, below="others")
+        return status, said, (folder / name).read_text()
+
+    place.put("others/a.c")
+    for name, text in [
+        ("s.c", "int f(void) {\n}\n"),
+        ("comment.c", "//a.c\nint f(void) {\n}\n"),
+        ("name.c", "//a.c\n"),
+        ("Makefile", "a.c\nb.o\n"),
+        ("cscope.out", "cscope 15 $HOME -c\n"),
+    ]:
         place.put(f"others/{name}", text)
-        status, _, said = place.run("-b", "-f", name, "a.c", below="others")
-        check(
-            f"{name} as a list",
-            status == 1 and (place.folder / "others" / name).read_text() == text and "-W" in said,
-            said,
-        )
-        status, _, said = place.run("-b", "-W", "-f", name, "a.c", below="others")
-        check(
-            f"{name} that is replaced",
-            status == 0 and (place.folder / "others" / name).read_text() == "a.c\n",
-            said,
-        )
+        found = run(name, "a.c")
+        check(f"{name} as a list", found == (1, f"cbrowse-cscope: {name}{is_none}", text), found)
+        for force in "-W", "--force":
+            place.put(f"others/{name}", text)
+            found = run(name, force, "a.c")
+            check(f"{name} and {force}", found == (0, "", "a.c\n"), found)
+        (folder / name).unlink()
+    place.put("others/cscope.out", "a.c\nsrc/b.h")
+    (folder / "cscope.out").chmod(0o640)
+    check("an old list", run("cscope.out", "a.c") == (0, "", "a.c\n"))
+    mode = (folder / "cscope.out").stat().st_mode & 0o7777
+    check("its mode is kept", mode == 0o640, oct(mode))
+    place.put("others/names", "a.c\n")
+    place.put("others/empty.c", "")
+    os.link(folder / "a.c", folder / "hard")
+    (folder / "soft").symlink_to("a.c")
+    for name, words in [
+        ("a.c", ["a.c"]),
+        ("a.c", []),
+        ("hard", ["a.c"]),
+        ("soft", ["-R"]),
+        ("names", ["-i", "names"]),
+        ("names", ["a.c", "names"]),
+        ("empty.c", ["a.c", "empty.c"]),
+    ]:
+        before = (folder / name).read_text()
+        status, said, text = run(name, "-W", *words)
+        said = said.splitlines(keepends=True)[-1]
+        told = f"cbrowse-cscope: {name}{is_one}"
+        check(f"{name} and -W over {words}", (status, said, text) == (1, told, before), said)
+    (folder / "cscope.files").write_text("a.c\n")
+    status, said, text = run("cscope.files")
+    is_right = (status, text) == (1, "a.c\n") and said.endswith(is_one)
+    check("cscope.files over itself", is_right, said)
+    (folder / "cscope.files").unlink()
+    (folder / "link").symlink_to("linked")
+    found = run("link", "a.c")
+    is_link = (folder / "link").is_symlink() and (folder / "linked").is_file()
+    check("a link", found == (0, "", "a.c\n") and is_link, found)
+    small = place.folder / "small"
+    small.mkdir()
+    with small_disk(small, 64) as is_mounted:
+        if is_mounted:
+            (small / "list").write_text("old.c\n")
+            fill(small)
+            status, _, said = place.run("-b", "-f", small / "list", "a.c", below="others")
+            found = (status, said, (small / "list").read_text(), sorted(os.listdir(small)))
+            told = f"cbrowse-cscope: {small}/list: cannot be written\n"
+            check("a full disk", found == (1, told, "old.c\n", ["filled", "list"]), found)
+    expected = {""}
+    for name in "ab":
+        names = [f"{name}/{'x' * 99}{number:03}.c" for number in range(200)]
+        for it in names:
+            place.put(f"others/twice/{it}", "")
+        expected.add("".join(f"{it}\n" for it in names))
+    (folder / "twice/list").write_text("")
+    runs = []
+    for name in "ab" * 4:
+        names = sorted(f"{name}/{it.name}" for it in (folder / f"twice/{name}").iterdir())
+        runs.append(["sh", place.script, "-b", "-f", "list", *names])
+    started = [subprocess.Popen(it, cwd=folder / "twice", env=place.settings()) for it in runs]
+    texts = set()
+    while any(it.poll() is None for it in started):
+        texts.add((folder / "twice/list").read_text())
+    is_right = texts <= expected and len(texts) > 1 and not any(it.returncode for it in started)
+    check("two runs at once do not mix", is_right, [it[:200] for it in texts - expected])
+    check("nothing is left", sorted(os.listdir(folder / "twice")) == ["a", "b", "list"])
     status, _, said = place.run("-b", "a.c", below="others")
     check("a list that is written again", status == 0, said)
     for words, why in (["-b", "-Z"], "-Z: no such option"), (["-b", "-i"], "-i needs a value"):
@@ -207,6 +355,7 @@ def main() -> int:
         away(place)
         profiles(place)
         ends(place)
+        sessions(place)
         others(place)
         long_list(place)
     return report.status()

@@ -17,29 +17,39 @@ Refused    a file that the program refuses is left out and told with its reason,
            there.
 Names      names from lists and from standard input, folders and files in any mix, what is left out
            by --exclude, and which of them decide the status.
-Odd names  what cbrowse does not take is told once for each reason, with how many and three names,
-           and left out, and all else is there; folders named `!`, `(` and `-x`, and a tags file
-           named `-t`, are taken as they are.
+Odd names  what cbrowse does not take is listed once for each reason, with how many and three names
+           in printable ASCII, and left out, and all else is there: names with a blank, a backquote,
+           a `$`, control bytes and a line feed, also in the name of a folder. Each message is one
+           write. Folders named `!`, `(` and `-x`, and a tags file named `-t`, are taken.
 Ends       numbers that begin with 0; a tags file that is a link, a pipe or the name of another's
            folder; no standard error; a program in a folder of PATH that does not begin with /;
            folders that cannot be read (as root, who runs as nobody).
-Sources    a file that is no tags file is left alone, unless --force is given.
+Others     a file that is not a tags file is left alone, unless --force is given; a source, an
+           operand and a list are left alone even so, under whatever name. The mode of an old tags
+           file is kept. Two runs at once do not mix. A signal leaves an old tags file as it was.
+Changes    files and folders that come, go and change meanwhile are taken or listed as left out.
 Failures   an old tags file stays as it was, and the status is 1, where a folder is not there, where
            the program or `sort` fails, and where the temporary folder is full: each size of a small
-           one is tried (as root alone, with `mount`).
+           one is tried (as root alone, with `mount`). So it is where its own folder is full.
 """
 
 from __future__ import annotations
 
+import contextlib
 import os
 import pathlib
+import random
+import shutil
+import signal
 import subprocess
 import sys
 import tempfile
+import threading
+import time
 from typing import Iterable
 
 sys.path.insert(0, str(pathlib.Path(__file__).resolve().parents[1]))
-from shared import Place, Report, left_over, words_given, options  # noqa: E402
+from shared import Place, Report, fill, left_over, small_disk, words_given, options  # noqa: E402
 
 OLD = "old\told.c\t/^old$/\n"
 TEXT = "int g(void) {\n}\n"
@@ -304,34 +314,50 @@ def names_given(place: Place) -> None:
 
 def odd_names(place: Place) -> None:
     text = TEXT
-    for name in (
+    bad = [
+        "odd/$HOME.c",
         "odd/a b.c",
-        "odd/a c.c",
-        "odd/a d.c",
+        "odd/a\n/odd/good.c",
+        "odd/b`id`.c",
+        "odd/back\\slash \033.c",
         "odd/\u00e9.c",
-        "odd/'$(x)*.c",
-        "odd/good.c",
-        "!/a.c",
-        "(/a.c",
-        "-x/a.c",
-    ):
+    ]
+    for name in [*bad, "odd/'(x)*.c", "odd/good.c", "odd/\\.c", "!/a.c", "(/a.c", "-x/a.c"]:
         place.put(name, text)
     place.put_large("odd/large.c")
     status, _, said = place.run("-f", "odd.tags", "odd")
     lines = (place.folder / "odd.tags").read_text().splitlines()
     told = [
         "cbrowse-tree: 1 left out, too large: odd/large.c",
-        "cbrowse-tree: 4 left out, bad name: odd/??.c, odd/a?b.c, odd/a?c.c ..",
+        "cbrowse-tree: 6 left out, bad name: odd/$HOME.c, odd/\\xc3\\xa9.c, odd/a b.c ..",
     ]
-    check(
-        "odd names",
-        status == 0
-        and said.splitlines() == told
-        and [line.split("\t")[1] for line in lines[2:]] == ["odd/'$(x)*.c", "odd/good.c"],
-        said,
+    check("odd names", (status, said.splitlines()) == (0, told), said)
+    taken = [line.split("\t")[1] for line in lines[2:]]
+    check("and the others", taken == ["odd/'(x)*.c", "odd/\\.c", "odd/good.c"], taken)
+    names = [*bad, "odd/large.c"]
+    shown = [
+        "".join(it if " " <= it <= "~" and it != "\\" else "\\x%02x" % ord(it) for it in name)
+        for name in (os.fsencode(name).decode("latin-1") for name in names)
+    ]
+    expected = sorted(
+        f"cbrowse-tree: {name}: {'too large' if 'large' in name else 'bad name'}\n"
+        for name in shown
     )
-    status, _, said = place.run("--verbose", "-f", "odd.tags", "odd")
-    check("odd names, one by one", status == 0 and len(said.splitlines()) == 5, said)
+    found = place.writes("--verbose", "-f", "odd.tags", "odd")
+    check("each message is one write", [it.decode() for it in found] == expected, found)
+    found = place.writes("-f", "-", "odd/\033[2J.x")
+    told = [b"cbrowse-tree: odd/\\x1b[2J.x: no such file or folder\n"]
+    check("an odd operand", found == told, found)
+    lines = ["odd/good.c", "odd/b`id`.c", "x" * 254 + ".c", "x" * 99_999, "odd/$HOME.c\t"]
+    place.put("odd names", "\n".join(lines))
+    status, out, said = place.run("-f", "-", "-L", "odd names", "--verbose")
+    told = [
+        "cbrowse-tree: odd/$HOME.c\\x09: bad name",
+        "cbrowse-tree: odd/b`id`.c: bad name",
+        f"cbrowse-tree: {'x' * 254}.c: bad name",
+        f"cbrowse-tree: {'x' * 4096}: not named .c or .h",
+    ]
+    check("odd names in a list", (status, said.splitlines()) == (1, told), said[:300])
     for folder in "!", "(", "./-x":
         status, _, said = place.run("-f", "-t", folder)
         check(
@@ -433,30 +459,179 @@ def ends(place: Place) -> None:
     )
 
 
-def sources(place: Place) -> None:
-    """A file that is no tags file is left alone, unless one says otherwise."""
-    source = "int f(void) {\n}\n"
-    place.put("victim/a.c", source)
-    status, _, said = place.run("-f", "victim/a.c", "victim")
-    check(
-        "a source as a tags file",
-        status == 1 and (place.folder / "victim/a.c").read_text() == source and "--force" in said,
-        said,
-    )
-    status, _, said = place.run("--force", "-f", "victim/a.c", "victim")
-    check(
-        "a source that is replaced",
-        status == 0 and "\nf\tvictim/a.c\t" in (place.folder / "victim/a.c").read_text(),
-        said,
-    )
-    place.put("victim/b.c", source)
-    place.put("victim.tags", "!_TAG_FILE_SORTED\t1\t//\n")
-    status, _, said = place.run("-f", "victim.tags", "victim")
-    check(
-        "a tags file of another program",
-        status == 0 and "victim/b.c" in (place.folder / "victim.tags").read_text(),
-        said,
-    )
+def others(place: Place) -> None:
+    """What stands under the name of the tags file, and is left alone or replaced."""
+    folder = place.folder / "others"
+    texts = {
+        "notes.txt": "int\tf\n",
+        "bsd": "/*\t$OpenBSD: a.c\t*/\nint f(void) {\n}\n",
+        "lexer.l": "%{\n#include <stdio.h>\n",
+        "GTAGS": "\0\1\2\0",
+        "\033": "x",
+    }
+    is_none = ": cannot be written: it is not a tags file (--force replaces it)\n"
+    is_one = ": cannot be written: it is a source or an operand\n"
+
+    def run(name: str, *words: object) -> tuple[int, str, str]:
+        """Status, standard error, and what stands there then."""
+        status, _, said = place.run("-f", name, *words, below="others")
+        return status, said, (folder / name).read_text()
+
+    place.put("others/s/a.c", TEXT)
+    place.put("others/s/bsd.c", texts["bsd"])
+    expected = subprocess.run(
+        [place.cbrowse, "tags", "--wide", "--format", "2", "-f", "-", "s/a.c", "s/bsd.c"],
+        cwd=folder,
+        stdout=subprocess.PIPE,
+    ).stdout.decode()
+    for name, text in texts.items():
+        place.put(f"others/{name}", text)
+        shown = name.replace("\033", "\\x1b")
+        found = run(name, "s")
+        told = f"cbrowse-tree: {shown}{is_none}"
+        check(f"{shown} is left alone", found == (1, told, text), found)
+        found = run(name, "--force", "s")
+        check(f"{shown} is replaced by --force", found == (0, "", expected), found)
+    for text in "!_TAG_x\ty\n", "f\ta.c\t/^int f/\n", "f\ta.c\t12\n", "":
+        place.put("others/tags", text)
+        found = run("tags", "s")
+        check(f"a tags file that begins with {text!r}", found == (0, "", expected), found)
+    (folder / "tags").chmod(0o640)
+    check("written again", run("tags", "s") == (0, "", expected))
+    mode = (folder / "tags").stat().st_mode & 0o7777
+    check("its mode is kept", mode == 0o640, oct(mode))
+    place.put("others/empty.c", "")
+    place.put("others/list", "s/a.c\n")
+    place.put("others/asked", "1f\n")
+    os.link(folder / "s/a.c", folder / "hard")
+    (folder / "soft").symlink_to("s/a.c")
+    (folder / "s/linked.c").symlink_to("../soft")
+    for name, words in [
+        ("s/a.c", ["s"]),
+        ("hard", ["s"]),
+        ("soft", ["s"]),
+        ("s/a.c", ["s/linked.c"]),
+        ("list", ["-L", "list"]),
+        ("list", ["s", "list"]),
+        ("empty.c", ["."]),
+        ("empty.c", ["s", "empty.c"]),
+    ]:
+        before = (folder / name).read_text()
+        found = run(name, "--force", *words)
+        told = f"cbrowse-tree: {name}{is_one}"
+        check(f"{name} by --force over {words}", found == (1, told, before), found)
+    check("and no other file", not list(folder.glob("*.[0-9]*")), os.listdir(folder))
+    place.put("others/other.c", "int x;\n")
+    found = run("other.c", "--force", "s")
+    check("a source of no tree is replaced by --force", found == (0, "", expected), found)
+
+
+def at_once(place: Place) -> None:
+    """Two runs that write the same tags file, over and over."""
+    expected = []
+    for name in "ab":
+        names = [f"twice/{name}/f{number}.c" for number in range(50)]
+        for number, file in enumerate(names):
+            place.put(file, f"int {name}{number}(void) {{\n}}\n")
+        expected.append(one(place, sorted(names)))
+    expected.append(b"")
+    place.put("twice.tags", "")
+    runs = [
+        ["sh", place.script, "-j", "1", "-f", "twice.tags", f"twice/{name}"] for name in "ab" * 4
+    ]
+    started = [subprocess.Popen(run, cwd=place.folder, env=place.settings()) for run in runs]
+    found = set()
+    while any(it.poll() is None for it in started):
+        found.add((place.folder / "twice.tags").read_bytes())
+    is_whole = found <= set(expected) and len(found) > 1
+    check("two runs at once do not mix", is_whole and not any(it.returncode for it in started))
+    check("nothing is left", not list(place.folder.glob("twice.tags?*")))
+
+
+def signals(place: Place) -> None:
+    """A signal while parts run."""
+    room = place.folder / "signals"
+    room.mkdir()
+    slow = f'#!/bin/sh\n: >"{room}/begun"\nsleep 1\nexec {place.cbrowse} "$@"\n'
+    place.put("slow", slow)
+    (place.folder / "slow").chmod(0o755)
+    for number in signal.SIGINT, signal.SIGTERM, signal.SIGHUP:
+        place.put("old", OLD)
+        with contextlib.suppress(FileNotFoundError):
+            (room / "begun").unlink()
+        running = subprocess.Popen(
+            ["sh", place.script, "-f", "old", "-j", "2", "many"],
+            cwd=place.folder,
+            env=place.settings(TMPDIR=room, CBROWSE=place.folder / "slow"),
+            stderr=subprocess.PIPE,
+        )
+        while not (room / "begun").exists():
+            time.sleep(0.05)
+        began = time.monotonic()
+        running.send_signal(number)
+        said = running.communicate(timeout=60)[1].decode()
+        taken = time.monotonic() - began
+        told = "cbrowse-tree: old: cannot be written: ended by a signal\n"
+        found = (running.returncode, said, (place.folder / "old").read_text())
+        check(f"{number.name} while it runs", found == (1, told, OLD), found)
+        check("it ends soon, and nothing is left", taken < 10 and left_over(room) == [], taken)
+
+
+def changes(place: Place) -> None:
+    """A tree whose files and folders come and go all the time."""
+    tree, room = place.folder / "changing", place.folder / "changes"
+    room.mkdir()
+
+    def fill_folder(number: int) -> None:
+        (tree / f"d{number}").mkdir(parents=True)
+        for file in range(100):
+            (tree / f"d{number}/f{file}.c").write_text(TEXT)
+
+    for number in range(6):
+        fill_folder(number)
+    place.put("changing/stays.c", "int stays(void) {\n}\n")
+    ended = threading.Event()
+
+    def change() -> None:
+        drawn = random.Random(1)
+        while not ended.is_set():
+            folder = drawn.randrange(6)
+            if drawn.random() < 0.05:
+                shutil.rmtree(tree / f"d{folder}")
+                fill_folder(folder)
+            else:
+                file = tree / f"d{folder}/f{drawn.randrange(100)}.c"
+                file.unlink()
+                ended.wait(0.001)
+                file.write_text(drawn.choice(["", TEXT, TEXT * 2000]))
+
+    changing = threading.Thread(target=change)
+    changing.start()
+    left = set()
+    try:
+        for number in range(20):
+            status, out, said = place.run("-f", "-", "-j", 4, "changing", TMPDIR=room)
+            lines = [line.split(b"\t") for line in out.splitlines()]
+            is_whole = all(len(line) > 3 for line in lines[2:])
+            if status or not is_whole or b"stays" not in {line[0] for line in lines}:
+                check(f"a tree that changes, run {number}", False, (status, said[:300]))
+            left |= {line.split(": ")[1] for line in said.splitlines()}
+    finally:
+        ended.set()
+        changing.join()
+    reasons = {it.split("left out, ")[1] for it in left}
+    is_right = reasons <= {"went away meanwhile", "cannot be read", "bad name"}
+    check("a tree that changes", is_right and "went away meanwhile" in reasons, left)
+    check("no temporary folder is left", left_over(room) == [], os.listdir(room))
+    place.put("gone.c", TEXT)
+    vanishing = f'#!/bin/sh\nrm -f changing/stays.c\nexec {place.cbrowse} "$@"\n'
+    place.put("vanishing", vanishing)
+    (place.folder / "vanishing").chmod(0o755)
+    for words, expected in (["changing"], 0), (["changing/stays.c", "gone.c"], 1):
+        place.put("changing/stays.c")
+        found = place.run("-f", "-", *words, CBROWSE=place.folder / "vanishing")
+        told = "cbrowse-tree: 1 left out, went away meanwhile: changing/stays.c\n"
+        check(f"a file that goes away in {words}", (found[0], found[2]) == (expected, told), found)
 
 
 def stays(place: Place, what: str, *words: str, **more: object) -> None:
@@ -484,30 +659,27 @@ def failures(place: Place) -> None:
     stays(place, "a sort that fails", "many", PATH=f"{place.folder}/bin:{os.environ['PATH']}")
     small, many = place.folder / "small", place.folder / "many/d0"
     small.mkdir()
-    if os.geteuid() != 0:
-        print("       a full folder is not tried: that takes root")
-        return
-    for blocks in (*range(1, 40), *range(40, 240, 8)):
-        mounted = subprocess.run(
-            ["mount", "-t", "tmpfs", "-o", f"size={blocks * 4}k", "tmpfs", small],
-            stderr=subprocess.DEVNULL,
-        )
-        if mounted.returncode:
-            print("       a full folder is not tried: nothing can be mounted here")
+    names = sorted(f"many/d0/{path.name}" for path in many.iterdir())
+    with small_disk(small, 64) as is_mounted:
+        if not is_mounted:
             return
-        try:
+        (small / "tags").write_text(OLD)
+        fill(small)
+        status, _, said = place.run("-f", "small/tags", "many/d0")
+        found = (status, said, (small / "tags").read_text(), sorted(os.listdir(small)))
+        told = "cbrowse-tree: small/tags: cannot be written\n"
+        check("a full disk", found == (1, told, OLD, ["filled", "tags"]), found)
+    for blocks in (*range(1, 40), *range(40, 240, 8)):
+        with small_disk(small, blocks * 4):
             place.put("old", OLD)
             status, _, said = place.run("-j", "1", "-f", "old", "many/d0", TMPDIR=small)
             held = (place.folder / "old").read_text()
             if status == 0:
-                names = sorted(f"many/d0/{path.name}" for path in many.iterdir())
                 is_whole = held == one(place, names).decode()
                 check(f"a temporary folder of {blocks * 4} kB is enough", is_whole, said)
                 return
             if held != OLD or said == "":
                 check(f"a temporary folder of {blocks * 4} kB", False, (status, said, held[:80]))
-        finally:
-            subprocess.run(["umount", small], check=True)
     check("a temporary folder is never enough", False)
 
 
@@ -522,7 +694,10 @@ def main() -> int:
         names_given(place)
         odd_names(place)
         ends(place)
-        sources(place)
+        others(place)
+        at_once(place)
+        signals(place)
+        changes(place)
         failures(place)
     return report.status()
 
