@@ -1,13 +1,15 @@
 -- What is called, as a reply.
 use Rattle.std.proofs.Common.{◌≡◌, ◌∙◌, ◌≤◌, ◌+◌, ◌-◌, ◌++◌, ℕ, zero, suc, Bool, true, false, List, []}
-use Rattle.std.proofs.Common.{◌<◌, ◌∷◌, refl, sym, subst, ap, arith, drop, get_or, length, map, take}
+use Rattle.std.proofs.Common.{◌<◌, ◌∷◌, append-nil, min, refl, sym, subst, ap, arith, drop, get_or}
+use Rattle.std.proofs.Common.{length, map, take}
 use Rattle.std.specs.Prelude.{None, Some, if◌then◌else◌}
 use Rattle.std.specs.List.{flat_map, prefix_len}
 use Rattle.std.specs.Option.{option_map}
 use Rattle.std.specs.Str.{bytes_eq}
-use Rattle.std.proofs.lemmas.List.{append_assoc, drop-drop, flat_map_more, length-drop, take_more}
+use Rattle.std.proofs.lemmas.List.{append_assoc, drop-drop, flat_map_more, length-drop, take_all}
+use Rattle.std.proofs.lemmas.List.{take_more}
 use Rattle.std.proofs.lemmas.Slice.Eq.{bytes_eq-Decides}
-use Rattle.std.proofs.Math.Seq.{take-length}
+use Rattle.std.proofs.Math.Seq.{take-append_seam, take-length}
 use Rattle.json.specs.Json.{Json, null}
 use Rattle.cb_desk.specs.Scanned.{ScannedText, scanned_by, scanned_named}
 use Rattle.cb_desk.specs.World.{World, has_file, text_of_file}
@@ -94,14 +96,48 @@ groups-step rows rest given g made all within is first so_far =
 
 -- ---- what names mean
 
+-- the first, of which there may be fewer
+pub take-min : {X : Type 0} (n : ℕ) (xs : List X) → take (min n (length xs)) xs ≡ take n xs
+take-min zero xs = let none : min zero (length xs) ≡ 0 = omega arith in
+    ap (λ k. take k xs) none
+take-min (suc n) [] = let none : min (suc n) 0 ≡ 0 = omega arith in rw none refl
+take-min (suc n) (x ∷ xs) =
+    let more : min (suc n) (suc (length xs)) ≡ suc (min n (length xs)) = omega arith in
+    rw more (ap (λ l. x ∷ l) (take-min n xs))
+
+pub rows-taken : (n : ℕ) (rows : List CalleeRow)
+    → callee_rows (take n rows) ≡ take n (callee_rows rows)
+rows-taken zero rows = refl
+rows-taken (suc n) [] = refl
+rows-taken (suc n) (r ∷ rs) = ap (λ l. callee_in r ∷ l) (rows-taken n rs)
+
+-- the first of some, and then others
+take-again : {X : Type 0} (n : ℕ) (xs ys : List X) → take n (take n xs ++ ys) ≡ take n (xs ++ ys)
+take-again zero xs ys = refl
+take-again (suc n) [] ys = refl
+take-again (suc n) (x ∷ xs) ys = ap (λ l. x ∷ l) (take-again n xs ys)
+
+-- what was made is all, or as many as may be
+pub made-all : {X : Type 0} (n : ℕ) (made left all : List X) → made ++ left ≡ all → left ≡ []
+    → length made ≤ n → made ≡ take n all
+made-all n made left all whole none few =
+    sym (take_all n made few)
+    ∙ ap (take n) (sym (append-nil made) ∙ ap (λ l. made ++ l) (sym none) ∙ whole)
+
+pub made-most : {X : Type 0} (n : ℕ) (made left all : List X) → made ++ left ≡ all
+    → length made ≡ n → made ≡ take n all
+made-most n made left all whole full =
+    sym (take-append_seam made left) ∙ ap (λ k. take k (made ++ left)) full ∙ ap (take n) whole
+
 -- what one more group means
-pub called-more : {X Y : Type 0} (f : X → List Y) (gs : List X) (i : ℕ) (d : X)
-    (made more : List Y) → i < length gs → made ≡ flat_map f (take i gs)
-    → more ≡ made ++ f (get_or gs i d) → more ≡ flat_map f (take (i + 1) gs)
-called-more f gs i d made more within so_far grown =
-    grown ∙ ap (λ ms. ms ++ f (get_or gs i d)) so_far
-    ∙ flat_map_more f [] (take i gs) (get_or gs i d)
-    ∙ ap (flat_map f) (sym (take_more gs i d within))
+pub called-more : {X Y : Type 0} (f : X → List Y) (gs : List X) (i n : ℕ) (d : X)
+    (made more : List Y) → i < length gs → made ≡ take n (flat_map f (take i gs))
+    → more ≡ take n (made ++ f (get_or gs i d)) → more ≡ take n (flat_map f (take (i + 1) gs))
+called-more f gs i n d made more within so_far grown =
+    grown ∙ ap (λ ms. take n (ms ++ f (get_or gs i d))) so_far
+    ∙ take-again n (flat_map f (take i gs)) (f (get_or gs i d))
+    ∙ ap (take n) (flat_map_more f [] (take i gs) (get_or gs i d)
+    ∙ ap (flat_map f) (sym (take_more gs i d within)))
 
 pub called-all : {X Y Z : Type 0} (f : Y → List Z) (made : X → Y) (gs : List X) (i : ℕ)
     → length gs ≤ i → flat_map (λ g. f (made g)) (take i gs) ≡ flat_map f (map made gs)

@@ -1,5 +1,6 @@
 -- What functions and macros call.
-use Rattle.std.specs.Prelude.{ℕ, ◌==◌, ◌&&◌, Bool, List, [], ◌∷◌, filter, map}
+use Rattle.std.specs.Prelude.{ℕ, ◌==◌, ◌&&◌, ◌-◌, Bool, List, [], ◌∷◌, filter, length, map, take}
+use Rattle.std.specs.Prelude.{if◌then◌else◌}
 use Rattle.std.specs.List.{flat_map}
 use Rattle.std.specs.Str.{bytes_eq}
 use Rattle.json.specs.Json.{Json}
@@ -78,16 +79,29 @@ called_as w file g =
     map (λ (t : Tag). (t, g.1))
     (callables (meaning (tags_named w.profile g.0.name w.files) file))
 
+-- calls up to so many, and what is called up to so many calls in all
+abbrev pub cut_called : (most : ℕ) → Called → Called
+cut_called most called = (called.0, take most called.1)
+
+abbrev pub cut_calls : (left : ℕ) → List Called → List Called
+cut_calls left [] = []
+cut_calls left (called ∷ more) =
+    let cut = cut_called left called in
+    if left == 0 then [] else cut ∷ cut_calls (left - length cut.1) more
+
 abbrev pub called_calls : Client → List File → Called → Json
 called_calls c files called =
     wire.calls_of (side_name To) (item_of c files called.0)
     (map (λ (d : Callee). d.range) called.1)
 
--- of calls of a file in the order of called names what is called
+-- of calls of a file in the order of called names what is called: the first 1,000, and 100,000 calls
+abbrev pub first_called : World → (file : List ℕ) → List Callee → List Called
+first_called w file cs =
+    take 1000 (flat_map (called_as w file) (by_first_call (cut_by have_one_name cs)))
+
 abbrev pub told_by_name : Client → World → (file : List ℕ) → List Callee → List Json
 told_by_name c w file cs =
-    map (called_calls c w.files)
-    (flat_map (called_as w file) (by_first_call (cut_by have_one_name cs)))
+    map (called_calls c w.files) (cut_calls 100000 (first_called w file cs))
 
 -- what is called by what has this name at a position of the file of this name and text
 abbrev pub outgoing_calls : Client → World → (file text name : List ℕ) → Position → List Json

@@ -1,6 +1,5 @@
 -- What a client has of the documents that it opened, and that the server has the same.
-use Rattle.std.specs.Prelude.{◌≡◌, ◌⊎◌, ℕ, Bool, true, false, Contains, List, [], ◌∷◌, Option}
-use Rattle.std.specs.Prelude.{None, Some}
+use Rattle.std.specs.Prelude.{◌≡◌, ◌⊎◌, ℕ, Bool, false, List, [], ◌∷◌, Option, None, Some}
 use Rattle.std.specs.List.{AllByRecursion}
 use Rattle.std.specs.Prelude.{if◌then◌else◌}
 use Rattle.std.specs.Str.{bytes_eq}
@@ -17,10 +16,10 @@ use Rattle.cb_lsp.specs.declared.notice.Notice.TheVariants.{Files}
 use Rattle.cb_lsp.specs.declared.server.Stage.{Stage}
 use Rattle.cb_lsp.specs.declared.server.Stage.TheVariants.{Fresh, Running, Down}
 use Rattle.cb_lsp.specs.Documents.{Document, Reading, Oracle, Told, Work, document_of, removed}
-use Rattle.cb_lsp.specs.Documents.{renewed, was_lost}
+use Rattle.cb_lsp.specs.Documents.{renewed}
 use Rattle.cb_lsp.specs.Messages.{Message, Serving, does, fresh_server, not_json, notice_of}
-use Rattle.cb_lsp.specs.Messages.{notification, request, show_of, told_of, too_large}
-use Rattle.cb_lsp.specs.Bodies.{Turn, after, outcome, refused, taken}
+use Rattle.cb_lsp.specs.Messages.{notification, request, told_of, too_large}
+use Rattle.cb_lsp.specs.Bodies.{Turn, after, refused, taken}
 use Rattle.cb_lsp.specs.Params.{changes_in, document_text, uri_in}
 
 -- what a client has of the document of a name, if that is open
@@ -141,16 +140,6 @@ abbrev pub DocumentsStayInSync : Type 0
 DocumentsStayInSync = (w : World) (root : Below) (rooted : Bool) (version : List ℕ)
     (arrived : List Arrived) → AllByRecursion HasArrived arrived
     → StayInSync in_bytes (fresh_server w root rooted version) arrived
-
--- a turn that leaves a document lost which was not lost before names it to the client
-abbrev pub IsNamed : List ℕ → List Json → Type 0
-IsNamed name written = (text : List ℕ) × Contains written (show_of name text)
-
-abbrev pub WhatIsLostIsNamed : Type 0
-WhatIsLostIsNamed = (s : Serving) (t : Turn) (name : List ℕ) (d : Document)
-    → document_of (after s t).work.documents name ≡ Some d → d.lost ≡ true
-    → was_lost (document_of s.work.documents name) ≡ false
-    → IsNamed name (outcome s t).written
 
 -- ---- what changes no file
 

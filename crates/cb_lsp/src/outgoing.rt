@@ -1,6 +1,6 @@
 //! What functions and macros call.
 ghost use Rattle.std.specs.Prelude.{◌≡◌, ◌≤◌, ◌++◌, ◌∷◌, [], Bool, IfOk, MatchOption, Some, length};
-ghost use Rattle.std.specs.Prelude.{map};
+ghost use Rattle.std.specs.Prelude.{map, take};
 ghost use Rattle.std.specs.Cmp.Lexicographic.{slice_cmp};
 ghost use Rattle.std.specs.List.{flat_map, prefix_len};
 ghost use Rattle.std.specs.Ordering.{nat_cmp};
@@ -14,7 +14,8 @@ ghost use Rattle.cb_lsp.specs.Answers.{list_of, outgoing_named};
 ghost use Rattle.cb_lsp.specs.Calls.{cut_by};
 ghost use Rattle.cb_lsp.specs.Messages.{result_unless};
 ghost use Rattle.cb_lsp.specs.Outgoing.{by_first_call, by_name, called_as, called_calls, callee_of};
-ghost use Rattle.cb_lsp.specs.Outgoing.{callees_by, have_one_name, is_call_by, told_by_name};
+ghost use Rattle.cb_lsp.specs.Outgoing.{callees_by, cut_called, first_called, have_one_name};
+ghost use Rattle.cb_lsp.specs.Outgoing.{is_call_by, told_by_name};
 ghost use Rattle.cb_lsp.specs.steps.Located.{client_in};
 ghost use Rattle.cb_lsp.specs.steps.Outgoing.{FirstGroup, called_in, called_rows, callee_in};
 ghost use Rattle.cb_lsp.specs.steps.Outgoing.{callee_rows, group_in, group_rows, outgoing_left};
@@ -71,6 +72,33 @@ struct CalleeGroup<'a, 'p> {
 struct CalledRow<'a, 'p> {
     row: TagRow<'a>,
     calls: &'p [CalleeRow<'a>],
+}
+
+/// The most functions and macros that are said to be called.
+const MOST_CALLED: usize = 1_000;
+
+/// The most calls that are listed with them.
+const MOST_RANGES: usize = 100_000;
+
+impl<'a, 'p> CalledRow<'a, 'p> {
+    /// The same with at most so many calls.
+    fn cut(&self, most: usize) -> CalledRow<'a, 'p>
+        ensures called { called_in result ≡ cut_called most (called_in self.now) }
+        ensures few { length result.calls.now ≤ most }
+    {
+        CalledRow {
+            row: self.row,
+            calls: front(self.calls, most),
+        }
+    }
+}
+
+/// The first calls, at most so many.
+fn front<'a, 'p>(calls: &'p [CalleeRow<'a>], most: usize) -> &'p [CalleeRow<'a>]
+    ensures front { result.now ≡ take most calls.entry.now }
+    ensures few { length result.now ≤ most }
+{
+    calls.split_at(most.min(calls.len())).0
 }
 
 /// Whether a call stands in what has a name that begins at a place.
@@ -186,21 +214,26 @@ fn sort_by_first_call(groups: &mut Vec<CalleeGroup<'_, '_>>) -> Result<(), Alloc
     Ok(())
 }
 
-/// Appends each function and macro that a called name means in a file.
+/// Appends each function and macro that a called name means in a file, up to the most.
 fn push_called<'a, 'p>(
     desk: &'a Desk,
     file: &[u8],
     group: &CalleeGroup<'a, 'p>,
     called: &mut Vec<CalledRow<'a, 'p>>,
 ) -> Result<(), AllocError>
-    ensures { IfOk result (λ _. called_rows called.new.items ≡ called_rows called.old.items
-        ++ called_as desk.entry.now.timeline.present file.now (group_in group.now)) }
+    requires { length called.old.items ≤ 1000 }
+    ensures { IfOk result (λ _. called_rows called.new.items ≡ take 1000
+        (called_rows called.old.items
+        ++ called_as desk.entry.now.timeline.present file.now (group_in group.now))) }
 {
     let _files = desk.files();
     let calls = group.calls;
     let mut rest = Meaning::new(desk.definitions(group.first.name), file);
-    'rows: while let Some(row) = next_callable(&mut rest) {
-        called.push(CalledRow { row, calls })?;
+    'rows: while called.len() < MOST_CALLED {
+        match next_callable(&mut rest) {
+            Some(row) => called.push(CalledRow { row, calls })?,
+            None => return Ok(()),
+        }
     }
     Ok(())
 }
@@ -212,8 +245,8 @@ fn called_of<'a, 'p>(
     file: &[u8],
     groups: &[CalleeGroup<'a, 'p>],
 ) -> Result<Vec<CalledRow<'a, 'p>>, AllocError>
-    ensures { IfOk result (λ called. called_rows called.items ≡ flat_map
-        (called_as desk.entry.now.timeline.present file.now) (group_rows groups.now)) }
+    ensures { IfOk result (λ called. called_rows called.items ≡ take 1000 (flat_map
+        (called_as desk.entry.now.timeline.present file.now) (group_rows groups.now))) }
 {
     let mut called = Vec::new(alloc);
     'names: for group in groups {
@@ -229,9 +262,8 @@ fn called_by<'a, 'p>(
     file: &[u8],
     rows: &'p [CalleeRow<'a>],
 ) -> Result<Vec<CalledRow<'a, 'p>>, AllocError>
-    ensures { IfOk result (λ called. called_rows called.items ≡ flat_map
-        (called_as desk.entry.now.timeline.present file.now)
-        (by_first_call (cut_by have_one_name (callee_rows rows.entry.now)))) }
+    ensures { IfOk result (λ called. called_rows called.items
+        ≡ first_called desk.entry.now.timeline.present file.now (callee_rows rows.entry.now)) }
 {
     let mut groups = groups_of(alloc, rows)?;
     sort_by_first_call(&mut groups)?;
@@ -261,6 +293,8 @@ fn calls_to<'a, 'p>(
 struct Outgoing<'a, 'p> {
     places: Located<'a>,
     rest: &'p [CalledRow<'a, 'p>],
+    /// So many calls may still be listed.
+    left: usize,
 }
 
 impl<'a, 'p> Elements for Outgoing<'a, 'p> {
@@ -272,14 +306,20 @@ impl<'a, 'p> Elements for Outgoing<'a, 'p> {
         Outgoing {
             places: self.places.again(),
             rest: self.rest,
+            left: self.left,
         }
     }
 
     fn next(&mut self) -> Option<Calls<'p, CalleeRow<'a>>> {
+        if self.left == 0 {
+            return None;
+        }
         match self.rest {
             [called, rest @ ..] => {
+                let cut = called.cut(self.left);
+                self.left -= cut.calls.len();
                 self.rest = rest;
-                Some(calls_to(&mut self.places, called))
+                Some(calls_to(&mut self.places, &cut))
             }
             [] => None,
         }
@@ -325,6 +365,7 @@ fn put_called<W: Write>(
             Outgoing {
                 places: Located::new(forms, desk),
                 rest: called.as_slice(),
+                left: MOST_RANGES,
             },
         ),
         Err(_) => put_refusal(out, id),

@@ -3,7 +3,7 @@ use Rattle.std.specs.Prelude.{◌≡◌, ◌≤◌, ℕ, List, ◌∷◌, drop, 
 use Rattle.cb_tags.specs.TagLines.{tag_of}
 use Rattle.cb_wire.specs.Values.{value_text}
 use Rattle.cb_lsp.specs.Calls.{cut_by}
-use Rattle.cb_lsp.specs.Outgoing.{Called, Callee, Group, called_calls, have_one_name}
+use Rattle.cb_lsp.specs.Outgoing.{Called, Callee, Group, called_calls, cut_calls, have_one_name}
 use Rattle.cb_lsp.specs.declared.outgoing.CalledRow.{CalledRow}
 use Rattle.cb_lsp.specs.declared.outgoing.CalleeGroup.{CalleeGroup}
 use Rattle.cb_lsp.specs.declared.outgoing.CalleeRow.{CalleeRow}
@@ -38,4 +38,4 @@ pub record FirstGroup (all : List Callee) (g : Group) : Type 0 where
 abbrev pub outgoing_left : Outgoing → List (List ℕ)
 outgoing_left o =
     map (λ c. value_text (called_calls o.places.client o.places.files c))
-    (called_rows o.rest.now)
+    (cut_calls o.left (called_rows o.rest.now))

@@ -7,5 +7,5 @@ use Rattle.cb_lsp.proofs.outgoing.called_of.Given as goal
 abbrev pub invariant-names : goal.invariant-names
 invariant-names l =
     called_rows l.called.items
-    ≡ flat_map (λ g. called_as l.desk.timeline.present l.file (group_in g))
-    (take l.group-index l.groups)
+    ≡ take 1000 (flat_map (λ g. called_as l.desk.timeline.present l.file (group_in g))
+    (take l.group-index l.groups))

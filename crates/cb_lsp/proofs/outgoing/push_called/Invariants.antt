@@ -1,14 +1,16 @@
-use Rattle.std.proofs.Common.{◌≡◌, ◌++◌, length, map}
+use Rattle.std.proofs.Common.{◌≡◌, ◌≤◌, ◌++◌, length, map}
 use Rattle.cb_lsp.specs.steps.Elements.{callables_left}
 use Rattle.cb_lsp.specs.steps.Outgoing.{called_rows, callee_rows}
 use Rattle.cb_lsp.proofs.outgoing.push_called.Given as goal
 
 abbrev pub invariant-rows : goal.invariant-rows
-invariant-rows l =
-    called_rows l.called.items
-    ++ map (λ t. (t, callee_rows l.calls)) (callables_left l.rest)
-    ≡ called_rows l.initial.called.items
-    ++ map (λ t. (t, callee_rows l.calls)) (callables_left l.initial.rest)
+invariant-rows l = record {
+  all : called_rows l.called.items
+      ++ map (λ t. (t, callee_rows l.calls)) (callables_left l.rest)
+      ≡ called_rows l.initial.called.items
+      ++ map (λ t. (t, callee_rows l.calls)) (callables_left l.initial.rest);
+  few : length l.called.items ≤ 1000;
+}
 
 abbrev pub decreases-rows : goal.decreases-rows
 decreases-rows l = length (callables_left l.rest)
