@@ -15,7 +15,7 @@ pub no_job : (found : Text × List Row) → ((b : WorldBounds) → AreBoundsOf f
     → (job : Job) → IsJobOf (Some found) job → ⊥
 no_job found none (Line bounds rules list files) is = none bounds is.1
 no_job found none (Find bounds rules field pattern list files) is = none bounds is.1
-no_job found none (Tags bounds rules listing tagsfile format list files) is = none bounds is.1
+no_job found none (Tags bounds rules listing tagsfile force format list files) is = none bounds is.1
 no_job found none (Lsp bounds rules root list files) is = none bounds is.1
 
 none_is : (r : Rules) → None ≡ Some r → ⊥
@@ -26,6 +26,6 @@ pub no_rules : (found : Text × List Row) → rules_in found.1 ≡ None
     → (job : Job) → IsJobOf (Some found) job → ⊥
 no_rules found none (Line bounds rules list files) is = none_is rules (sym none ∙ is.2)
 no_rules found none (Find bounds rules field pattern list files) is = none_is rules (sym none ∙ is.2)
-no_rules found none (Tags bounds rules listing tagsfile format list files) is =
+no_rules found none (Tags bounds rules listing tagsfile force format list files) is =
     none_is rules (sym none ∙ is.2)
 no_rules found none (Lsp bounds rules root list files) is = none_is rules (sym none ∙ is.2)
