@@ -1,6 +1,6 @@
 -- Where no bounds, no rules, no files, no list that may be read or no root from `/` are found there
 -- is no job.
-use Rattle.std.proofs.Common.{◌≡◌, ◌∙◌, ap, sym, List, None, Some, true, false}
+use Rattle.std.proofs.Common.{◌≡◌, ◌∙◌, ap, sym, List, None, Some}
 use Rattle.std.proofs.lemmas.Bool.{true≢false}
 use Rattle.std.specs.Prelude.{is_some}
 use Rattle.clap.specs.Words.{Row, Text}

@@ -1,9 +1,7 @@
 -- A tags file: from its first step to the last one.
-use Rattle.std.proofs.Common.{◌≡◌, ◌∙◌, ◌⊎◌, ap, inl, inr, refl, subst, sym, List, [], ◌∷◌, ℕ}
+use Rattle.std.proofs.Common.{◌≡◌, inl, inr, refl, subst, sym, List, [], ◌∷◌, ℕ}
 use Rattle.std.proofs.Common.{Option, Some, None, true}
 use Rattle.cb_lsp.specs.Documents.{Looked}
-use Rattle.cb_session.specs.declared.input.Ended.TheVariants.{Done, Fault}
-use Rattle.cb_session.specs.declared.input.Fault.TheVariants.{Write}
 use Rattle.std.specs.Io.KnownBytes.{Appends}
 use Rattle.cb_tags.specs.Writers.{Writer}
 use Rattle.cb_tags.specs.Writing.{AppendsPrefix}
@@ -13,7 +11,7 @@ use Rattle.cbrowse.specs.Messages.{files_of, force_of, tagsfile_of}
 use Rattle.cb_session.specs.States.{State}
 use Rattle.cb_tags.specs.Readers.{Reader}
 use Rattle.cbrowse.specs.Program.{DoesFrom, DoesInto, file_text, writes_file}
-use Rattle.cbrowse.specs.Tagsfile.{Begins, BeginsNone, MakesFile, Settles, first_step}
+use Rattle.cbrowse.specs.Tagsfile.{Begins, BeginsNone, MakesFile, Settles}
 use Rattle.cbrowse.specs.Writes.{WritesFile, fresh}
 use Rattle.cbrowse.specs.declared.execute.finish.Finish.{Finish}
 use Rattle.cbrowse.specs.declared.execute.finish.Finish.TheVariants.{Ran, Served, Unreadable}

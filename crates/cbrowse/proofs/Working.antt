@@ -205,17 +205,17 @@ stops_at finds most files ops item name idx place (Ran ended) at within is named
     stops
 stops_at finds most files ops item name idx place (Unreadable n) at within is named read found
     stops = (
-  omega (arith, stops.0, at, within, length-map files string_bytes),
-  subst (IsUnreadable finds most)
-      (named ∙ ap string_bytes is ∙ sym (get_or-map string_bytes files idx item [] within)
-      ∙ ap (λ k. slice_index_or (map string_bytes files) k []) (sym (stops.0 ∙ at))) stops.1,
-  (
-    ops,
-    read ∙ sym (take-map string_bytes idx files)
-        ∙ ap (λ k. take k (map string_bytes files)) (sym (stops.0 ∙ at)),
-    found,
-  ),
-)
+      omega (arith, stops.0, at, within, length-map files string_bytes),
+      subst (IsUnreadable finds most)
+          (named ∙ ap string_bytes is ∙ sym (get_or-map string_bytes files idx item [] within)
+          ∙ ap (λ k. slice_index_or (map string_bytes files) k []) (sym (stops.0 ∙ at))) stops.1,
+      (
+        ops,
+        read ∙ sym (take-map string_bytes idx files)
+            ∙ ap (λ k. take k (map string_bytes files)) (sym (stops.0 ∙ at)),
+        found,
+      ),
+    )
 stops_at finds most files ops item name idx place (Served how) at within is named read found stops =
     absurd stops
 stops_at finds most files ops item name idx place Unlisted at within is named read found stops =

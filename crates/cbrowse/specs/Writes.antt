@@ -4,7 +4,6 @@ use Rattle.std.specs.Io.KnownBytes.{Appends}
 use Rattle.cb_session.specs.declared.input.Ended.{Ended}
 use Rattle.cb_session.specs.declared.input.Ended.TheVariants.{Done, Fault}
 use Rattle.cb_session.specs.declared.input.Fault.TheVariants.{Write}
-use Rattle.cb_tags.specs.Readers.{Reader}
 use Rattle.cb_tags.specs.Writers.{Writer}
 use Rattle.cb_tags.specs.Writing.{AppendsPrefix}
 use Rattle.cbrowse.specs.declared.execute.finish.Finish.{Finish}

@@ -28,8 +28,9 @@ mod tagsfile;
 
 use crate::execute::crowded::wants_order;
 use crate::execute::files::read_operands;
-use crate::execute::finish::{Finish, bounds_of, conclude, files_of, force_of, most_line_bytes};
-use crate::execute::finish::refuse;
+use crate::execute::finish::{
+    Finish, bounds_of, conclude, files_of, force_of, most_line_bytes, refuse,
+};
 use crate::execute::list::take_list;
 use crate::execute::needs::needed_of;
 use crate::execute::storage::Storage;

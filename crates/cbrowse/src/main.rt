@@ -4,9 +4,8 @@
 mod execute;
 
 use cb_tags::Sink;
-use std::env;
-use std::io;
 use std::process::ExitCode;
+use std::{env, io};
 
 fn main(rt: HostRuntime) -> ExitCode {
     let mut errors = Sink::new(rt.stderr());

@@ -148,7 +148,10 @@ impl<R: Files + AllocGlobal> Storage for Process<'_, R> {
     }
 
     fn first_bytes(&self, alloc: Global, path: &str, most: u64) -> io::Result<Vec<u8>> {
-        let file = OpenOptions::new().read(true).write(true).open(self.rt, path)?;
+        let file = OpenOptions::new()
+            .read(true)
+            .write(true)
+            .open(self.rt, path)?;
         read_open(alloc, most, file, true)
     }
 
@@ -158,7 +161,10 @@ impl<R: Files + AllocGlobal> Storage for Process<'_, R> {
     }
 
     fn create(&mut self, path: &str, like: Option<Seen>) -> io::Result<R::File> {
-        let file = OpenOptions::new().write(true).create_new(true).open(self.rt, path)?;
+        let file = OpenOptions::new()
+            .write(true)
+            .create_new(true)
+            .open(self.rt, path)?;
         if let Some(old) = like {
             if let Err(error) = permit(&file, old.mode) {
                 let _ = fs::remove_file(self.rt, path);
@@ -169,7 +175,10 @@ impl<R: Files + AllocGlobal> Storage for Process<'_, R> {
     }
 
     fn open(&mut self, path: &str, seen: Seen) -> io::Result<R::File> {
-        let file = OpenOptions::new().write(true).create(true).open(self.rt, path)?;
+        let file = OpenOptions::new()
+            .write(true)
+            .create(true)
+            .open(self.rt, path)?;
         emptied(file, seen)
     }
 

@@ -1,6 +1,6 @@
-use Rattle.std.proofs.Common.{◌≡◌, ap, subst, string_bytes, map}
+use Rattle.std.proofs.Common.{◌≡◌, subst, string_bytes, map}
 use Rattle.std.specs.Option.{option_map}
-use Rattle.cbrowse.specs.Files.{Does, Step, disk_over}
+use Rattle.cbrowse.specs.Files.{Does, disk_over}
 use Rattle.cbrowse.specs.Messages.{files_of, force_of, tagsfile_of}
 use Rattle.cbrowse.specs.Program.{file_text}
 use Rattle.cbrowse.specs.Tagsfile.{Begins, Settles}
