@@ -23,6 +23,7 @@ Printed is how many growths each session and job met. The exit status is 1 where
 """
 
 import argparse
+import os
 import pathlib
 import subprocess
 import sys
@@ -205,12 +206,15 @@ class Session:
 def job(growths, program, words, folder, number):
     """A job's status, output, standard error and tags file, with the growth of a number refused."""
     tags, listed = pathlib.Path(folder, "tags"), pathlib.Path(folder, "list")
-    tags.write_bytes(b"old")
+    tags.write_bytes(OLD)
+    before = set(os.listdir(folder)) | {"list"}
     listed.write_bytes(LISTED)
     with open(listed, "rb") as file:
         pipes = {"stdin": file, "stdout": subprocess.PIPE, "stderr": subprocess.PIPE}
         run = growths.start([program, *words], number, cwd=folder, **pipes)
         out, said = run.communicate(timeout=PATIENCE)
+    if set(os.listdir(folder)) != before:
+        raise Wrong(f"{words}: growth {number}: it leaves {set(os.listdir(folder)) - before}")
     return run.returncode, out, said, tags.read_bytes()
 
 
@@ -225,7 +229,7 @@ def each_of_job(growths, program, words, folder):
     for number in range(1, MOST):
         status, out, said, tags = found = job(growths, program, words, folder, number)
         refused = growths.refused
-        is_told = status == 1 and not out and said in messages and tags == b"old"
+        is_told = status == 1 and not out and said in messages and tags == OLD
         if not (is_told and refused) and found != whole:
             raise Wrong(
                 f"{words}: growth {number}:"
@@ -237,6 +241,7 @@ def each_of_job(growths, program, words, folder):
 
 
 LISTED = b"m.c\n"  # the list of files of a job
+OLD = b"old\told.c\t1\n"  # its old tags file
 JOBS = (
     ["find", "0", "add", "a.c", "m.c"],
     ["find", "4", "add", "a.c"],

@@ -94,6 +94,7 @@ WHOLE = {
     "cbrowse run_job": "searches",
     "cbrowse execute": "files that cannot be read or loaded, or written",
     "cbrowse execute_process": "words that are wrong, and help",
+    "cbrowse run": "sessions",
 }
 # The words of crates/worked_cases/data/facts.txt that show a function.
 FACTS = {

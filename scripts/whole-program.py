@@ -6,19 +6,23 @@
 `make test` runs it on the program that it built. Each row below is the words, what standard output
 and standard error have, the exit status, and the tags file that is then there. Help and the texts
 on wrong words are compared whole or by their first line. After the rows come devices: a bound on
-the size of a file at each byte, standard input that fails after each byte, full devices, sources
-in the place of a tags file, a pipe as a file, 4,096 files and one more, lists as large as they may
-be, and words that are not UTF-8. The exit status is 1 where a check failed.
+the size of a file at each byte, standard input that fails after each byte, and full devices; then
+sources and operands in the place of a tags file, files that it may replace and may not, folders
+and files that may not be written, runs at once, what is not a regular file as an operand, 4,096
+files and one more, and lists as large as they may be. The exit status is 1 where a check failed.
 """
 
 from __future__ import annotations
 
 import argparse
+import json
 import os
 import pathlib
 import re
 import resource
 import signal
+import socket
+import stat
 import subprocess
 import sys
 import tempfile
@@ -100,6 +104,7 @@ n 3 w.h extern int n;
 pair 2 w.h struct pair { int first; } pairs[2];
 pairs 2 w.h struct pair { int first; } pairs[2];
 """
+OLD = b"old\told.c\t1\n"  # an old tags file
 ROWS_OF_ADD = b"""\
 a.c TWICE 2 #define TWICE(x) ((x) + add(x, 0))
 a.c add 4 static int add(int a, int b) {
@@ -174,6 +179,7 @@ Arguments:
 Options:
   -x                        Write a listing to standard output instead
   -f <TAGSFILE>             Tags file to write, - for standard output [default: tags]
+      --force               Replace a file that is not a tags file
       --format <FORMAT>     Format of the tags file: 1 for POSIX ctags, 2 with extension fields \
 [default: 1] [possible values: 1, 2]
       --wide                Find enumerators, members and variables too, and names that macros hide
@@ -525,9 +531,9 @@ class Checks:
             self.failed += 1
 
     def row(self, row: Row):
-        name, text = row.tags or ("tags", b"old")
+        name, text = row.tags or ("tags", OLD)
         path = self.folder / name
-        path.write_bytes(b"old")
+        path.write_bytes(OLD)
         before = set(os.listdir(self.folder))
         status, out, said = self.run(row.words, row.given)
         if row.begins:
@@ -549,13 +555,15 @@ class Checks:
                 self.expect(
                     [*words, size], (status, said, out.read_bytes()), (*meant, whole[:size])
                 )
+        out.write_bytes(OLD)
+        before = set(os.listdir(self.folder))
         for size in range(len(EXTENDED) + 1):
             found = self.run(["tags", "--format", "2", "-f", "out", "a.c"], b"", bounded(size))
-            is_whole = size == len(EXTENDED)
-            meant = (0, b"", b"") if is_whole else (1, b"", b"cbrowse: out: cannot be written\n")
-            self.expect(
-                ["tags -f out", size], (*found, out.read_bytes()), (*meant, EXTENDED[:size])
-            )
+            meant = (1, b"", b"cbrowse: out: cannot be written\n", OLD)
+            if size == len(EXTENDED):
+                meant = (0, b"", b"", EXTENDED)
+            self.expect(["tags -f out", size], (*found, out.read_bytes()), meant)
+            self.expect(["tags -f out", size, "the folder"], set(os.listdir(self.folder)), before)
         message = b"cbrowse: none.c: cannot be read\n"
         for size in range(len(message) + 1):
             with open(out, "wb") as file:
@@ -604,10 +612,12 @@ class Checks:
                     self.run(words, given, stdout=device)[::2],
                     (1, b"cbrowse: write fault\n"),
                 )
-        found = self.run(["tags", "-f", "/dev/full", "a.c"])
-        self.expect(
-            "tags -f /dev/full", found, (1, b"", b"cbrowse: /dev/full: cannot be written\n")
-        )
+        (self.folder / "full").symlink_to("/dev/full")
+        for name in ("/dev/full", "full"):
+            found = self.run(["tags", "-f", name, "a.c"])
+            message = b"cbrowse: %s: cannot be written\n" % name.encode()
+            self.expect(["tags -f", name], found, (1, b"", message))
+        self.expect("tags -f /dev/null", self.run(["tags", "-f", "/dev/null", "a.c"])[0], 0)
 
     def sources(self):
         """A C source that holds something is no tags file, whatever way leads to it. One that is
@@ -615,13 +625,11 @@ class Checks:
         source = self.folder / "source.h"
         (self.folder / "link").symlink_to("source.h")
         (self.folder / "link.c").symlink_to("source.h")
-        for name in ("source.h", "./source.h", "link.c", str(source)):
-            source.write_bytes(A_C)
-            message = b"cbrowse: " + name.encode() + b": cannot be written\n"
-            self.expect(
-                ["tags -f", name], self.run(["tags", "-f", name, "m.c", "n.c"]), (1, b"", message)
-            )
-            self.expect(["tags -f", name, "the source"], source.read_bytes(), A_C)
+        for name in ("source.h", "./source.h", "link.c", "link", str(source)):
+            for text in (A_C, OLD):
+                source.write_bytes(text)
+                for words in (["tags", "-f", name, "m.c"], ["tags", "--force", "m.c", "-f", name]):
+                    self.keeps(words, name, text)
         found = self.run(["tags", "-f", "a.c", "m.c", "a.c"])
         self.expect(
             "tags -f a.c over itself", found, (1, b"", b"cbrowse: a.c: cannot be written\n")
@@ -642,21 +650,206 @@ class Checks:
                 (0, b"", b""),
             )
             self.expect(["source.h", given], source.read_bytes(), PLAIN)
-        self.expect("tags -f link", self.run(["tags", "-f", "link", "m.c"]), (0, b"", b""))
-        self.expect("link", source.read_bytes(), b"Mb\tm.c\t/^int Mb(void) {$/\n")
 
-    def pipes_and_many(self):
-        """A pipe as a file, which has no size; and 4,096 files and one more."""
-        pipe = self.folder / "p.c"
-        os.mkfifo(pipe)
-        feeder = subprocess.Popen(["sh", "-c", "cat a.c > p.c"], cwd=self.folder)
-        self.expect(
-            "a pipe",
-            self.run(["find", "1", "add", "p.c"]),
-            (0, b"p.c add 4 static int add(int a, int b) {\n", b""),
+    def keeps(self, words, name, text):
+        """A tags file of this name cannot be written, and what has the name holds this text."""
+        before = set(os.listdir(self.folder))
+        message = b"cbrowse: %s: cannot be written\n" % name.encode()
+        self.expect(words, self.run(words), (1, b"", message))
+        self.expect([*words, "the file"], (self.folder / name).read_bytes(), text)
+        self.expect([*words, "the folder"], set(os.listdir(self.folder)), before)
+
+    def replaces(self, words, name, text):
+        """A tags file is written under this name, and nothing else changes."""
+        before = set(os.listdir(self.folder)) | {name}
+        self.expect(words, self.run(words), (0, b"", b""))
+        self.expect([*words, "the file"], (self.folder / name).read_bytes(), text)
+        self.expect([*words, "the folder"], set(os.listdir(self.folder)), before)
+
+    def kinds(self):
+        """What an old file has to hold so that it is replaced. By force each is."""
+        tags = self.folder / "notes.txt"
+        own = (
+            b"",
+            OLD,
+            b"!_TAG_FILE_FORMAT\t2\n",
+            b"!_TAG_",
+            b"x\tx.c\t/^x",
+            b"x\tx.c\t/^",
+            b"x\tx.c\t9",
+            b"\t\t0\n",
+            b"x y\tx.c\t/^x\nany line\n",
+            b"n" * 1_000_000 + b"\tx.c\t1\n",
         )
+        other = (
+            b"buy milk\n",
+            b"\n",
+            b"\n" + OLD,
+            b"!_TAG",
+            b"x\tx.c\n",
+            b"x\tx.c\t\n",
+            b"x\tx.c\t/x\n",
+            b"x\tx.c\t?^x\n",
+            b"x\tx.c\t:\n",
+            b"x\tx.c\t-1\n",
+            b"x\tx.c\n\t1\n",
+            b"/*\t$OpenBSD: x.c,v 1.1\t*/\n",
+            b"cscope 15 /w 0000000000\n",
+            b"a.c\nm.c\n",
+            A_C,
+        )
+        for text in own + other:
+            for force in ([], ["--force"]):
+                words = ["tags", "-f", "notes.txt", *force, "a.c"]
+                tags.write_bytes(text)
+                if text in own or force:
+                    self.replaces(words, "notes.txt", PLAIN)
+                else:
+                    self.keeps(words, "notes.txt", text)
+        tags.write_bytes(b"buy milk\n")
+        for words in (["tags", "-x", "-f", "notes.txt", "a.c"], ["tags", "-f-", "--force", "a.c"]):
+            self.expect(words, self.run(words)[0], 0)
+            self.expect([*words, "the file"], tags.read_bytes(), b"buy milk\n")
+        tags.unlink()
+        self.replaces(["tags", "-f", "notes.txt", "--force", "a.c"], "notes.txt", PLAIN)
+
+    def operands_as_tags(self):
+        """An operand is no tags file, by whatever name, and not by force."""
+        os.link(self.folder / "a.c", self.folder / "hard")
+        (self.folder / "soft").symlink_to("a.c")
+        (self.folder / "empty").symlink_to("none.h")
+        for force in ([], ["--force"]):
+            for name in ("hard", "soft", "a.c"):
+                self.keeps(["tags", "-f", name, *force, "m.c", "a.c"], name, A_C)
+                self.keeps(["tags", "-f", name, *force, "--files-from", "one.list"], name, A_C)
+            for name in ("none.h", "empty"):
+                self.keeps(["tags", "-f", name, *force, "none.h"], name, b"")
+
+    def in_place(self):
+        """A file behind a link is written where it stands, and so is a pipe."""
+        file, link, pipe = (self.folder / name for name in ("file", "to_file", "pipe"))
+        link.symlink_to("file")
+        self.replaces(["tags", "-f", "to_file", "a.c"], "file", PLAIN)
+        for text in (OLD, EXTENDED, b""):
+            file.write_bytes(text)
+            inode = os.stat(file).st_ino
+            self.replaces(["tags", "-f", "to_file", "a.c"], "to_file", PLAIN)
+            self.expect("the link", (link.is_symlink(), os.stat(file).st_ino), (True, inode))
+        file.write_bytes(b"buy milk\n")
+        self.keeps(["tags", "-f", "to_file", "a.c"], "to_file", b"buy milk\n")
+        self.replaces(["tags", "-f", "to_file", "--force", "a.c"], "to_file", PLAIN)
+        os.mkfifo(pipe)
+        reader = subprocess.Popen(["cat", "pipe"], cwd=self.folder, stdout=subprocess.PIPE)
+        self.expect("tags -f pipe", self.run(["tags", "-f", "pipe", "a.c"]), (0, b"", b""))
+        self.expect("the pipe", reader.communicate(timeout=PATIENCE)[0], PLAIN)
+
+    def permissions(self):
+        """A new file has the permissions of the old one; and what may not be written stays."""
+        tags = self.folder / "mode"
+        for mode in (0o600, 0o640, 0o666, 0o755):
+            tags.write_bytes(OLD)
+            tags.chmod(mode)
+            self.replaces(["tags", "-f", "mode", "a.c"], "mode", PLAIN)
+            self.expect(["the mode", mode], stat.S_IMODE(os.stat(tags).st_mode), mode)
+        tags.unlink()
+        before = lambda: os.umask(0o027)
+        self.expect("umask 027", self.run(["tags", "-f", "mode", "a.c"], b"", before)[0], 0)
+        self.expect("umask 027, the mode", stat.S_IMODE(os.stat(tags).st_mode), 0o640)
+
+        def as_nobody():
+            if os.geteuid() == 0:
+                os.setuid(65534)
+
+        shut = self.folder / "shut"
+        shut.mkdir()
+        (shut / "tags").write_bytes(OLD)
+        (shut / "tags").chmod(0o666)
+        shut.chmod(0o555)
+        open_ = self.folder / "open"
+        open_.mkdir()
+        open_.chmod(0o777)
+        (open_ / "tags").write_bytes(OLD)
+        (open_ / "tags").chmod(0o444)
+        for name in ("shut/tags", "open/tags", "shut/new"):
+            words = ["tags", "-f", name, "a.c"]
+            message = b"cbrowse: %s: cannot be written\n" % name.encode()
+            self.expect(words, self.run(words, b"", as_nobody), (1, b"", message))
+        found = [sorted(os.listdir(folder)) for folder in (shut, open_)]
+        self.expect("both folders", found, [["tags"], ["tags"]])
+        found = [(folder / "tags").read_bytes() for folder in (shut, open_)]
+        self.expect("their tags files", found, [OLD, OLD])
+        shut.chmod(0o755)
+
+    def at_once(self):
+        """Of runs at once each leaves a whole file, and nothing else. A draft has a name of its
+        own."""
+        texts = []
+        for letter in "pqrs":
+            lines = [b"int %s%04d(void) {\n}\n" % (letter.encode(), k) for k in range(2_000)]
+            (self.folder / f"{letter}.c").write_bytes(b"".join(lines))
+            entry = b"%s%04d\t%s.c\t/^int %s%04d(void) {$/\n"
+            name = letter.encode()
+            texts.append(b"".join(entry % (name, k, name, name, k) for k in range(2_000)))
+        before = set(os.listdir(self.folder)) | {"shared"}
+        for _ in range(5):
+            runs = [
+                subprocess.Popen([self.program, "tags", "-f", "shared", f], cwd=self.folder)
+                for f in ("p.c", "q.c", "r.c", "s.c")
+            ]
+            self.runs += len(runs)
+            ended = [run.wait(PATIENCE) for run in runs]
+            self.expect("four runs at once", ended, [0] * 4)
+            is_whole = (self.folder / "shared").read_bytes() in texts
+            self.expect("the tags file of one of four runs", is_whole, True)
+        self.expect("four runs, the folder", set(os.listdir(self.folder)), before)
+        drafts = [self.folder / f"shared.{number}.tmp" for number in range(1, 100)]
+        for draft in drafts[:-1]:
+            draft.write_bytes(b"another draft")
+        self.replaces(["tags", "-f", "shared", "p.c"], "shared", texts[0])
+        drafts[-1].write_bytes(b"another draft")
+        self.keeps(["tags", "-f", "shared", "q.c"], "shared", texts[0])
+        for draft in drafts:
+            self.expect(draft.name, draft.read_bytes(), b"another draft")
+            draft.unlink()
+
+    def not_regular(self):
+        """What is not a regular file cannot be read; a link to one can be. A list may be a pipe."""
+        os.mkfifo(self.folder / "pipe.c")
+        with socket.socket(socket.AF_UNIX) as end:
+            end.bind(str(self.folder / "sock.c"))
+        links = {"zero.c": "/dev/zero", "input.c": "/proc/self/fd/0", "loose.c": "none"}
+        for name, target in links.items():
+            (self.folder / name).symlink_to(target)
+        for name in ("pipe.c", "sock.c", "d.c", *links):
+            message = b"cbrowse: %s: cannot be read\n" % name.encode()
+            for words in (["find", "1", "add", name], ["tags", "a.c", name], ["line", name]):
+                self.expect(words, self.run(words, b"q\n"), (1, b"", message))
+        (self.folder / "linked.c").symlink_to("a.c")
+        row = b"linked.c add 4 static int add(int a, int b) {\n"
+        self.expect("a link", self.run(["find", "1", "add", "linked.c"]), (0, row, b""))
+        uri = "file://" + str(self.folder)
+        changed = [{"uri": f"{uri}/{name}", "type": 1} for name in ("pipe.c", "zero.c", "linked.c")]
+        messages = (
+            {"id": 1, "method": "initialize", "params": {"rootUri": uri, "capabilities": {}}},
+            {"method": "workspace/didChangeWatchedFiles", "params": {"changes": changed}},
+            {"id": 2, "method": "workspace/symbol", "params": {"query": "add"}},
+            {"id": 3, "method": "shutdown"},
+            {"method": "exit"},
+        )
+        bodies = [json.dumps({"jsonrpc": "2.0", **message}) for message in messages]
+        given = "".join(f"Content-Length: {len(body)}\r\n\r\n{body}" for body in bodies)
+        status, out, said = self.run(["lsp"], given.encode())
+        self.expect("a server", (status, said, out.count(b"linked.c")), (0, b"", 1))
+        for name in (b"pipe.c", b"zero.c"):
+            shown = out.count(b"cbrowse: %s: cannot be read" % name)
+            self.expect(["a server", name], shown, 1)
+        feeder = subprocess.Popen(["sh", "-c", "echo a.c > pipe.c"], cwd=self.folder)
+        found = self.run(["tags", "-x", "--files-from", "pipe.c"])
+        self.expect("a list that is a pipe", found, (0, LISTING, b""))
         feeder.wait(PATIENCE)
-        pipe.unlink()
+
+    def many(self):
+        """4,096 files and one more."""
         for number in range(1, 4098):
             (self.folder / f"f{number}.c").write_bytes(b"g();\n" if number == 4096 else b"")
         names = [f"f{number}.c" for number in range(1, 4098)]
@@ -714,6 +907,7 @@ def main():
     )
     program = str(pathlib.Path(parser.parse_args().program).resolve())
     with tempfile.TemporaryDirectory() as room:
+        os.chmod(room, 0o755)  # so that a run without the rights of root finds it
         checks = Checks(program, pathlib.Path(room))
         for row in ROWS:
             checks.row(row)
@@ -722,7 +916,13 @@ def main():
             checks.reader_fails,
             checks.full,
             checks.sources,
-            checks.pipes_and_many,
+            checks.kinds,
+            checks.operands_as_tags,
+            checks.in_place,
+            checks.permissions,
+            checks.at_once,
+            checks.not_regular,
+            checks.many,
             checks.lists,
         ):
             check()

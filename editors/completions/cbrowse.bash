@@ -56,7 +56,7 @@ _cbrowse() {
         'cbrowse') words='-h --help -V --version' ;;
         'cbrowse line') words='--wide --prototypes --max-files --max-file-bytes --files-from -h --help' ;;
         'cbrowse find') words='--wide --prototypes --max-files --max-file-bytes --files-from -h --help' ;;
-        'cbrowse tags') words='-x -f --format --wide --prototypes --max-files --max-file-bytes --files-from -h --help' ;;
+        'cbrowse tags') words='-x -f --force --format --wide --prototypes --max-files --max-file-bytes --files-from -h --help' ;;
         'cbrowse lsp') words='--root --wide --prototypes --max-files --max-file-bytes --files-from -h --help' ;;
         'cbrowse help') words='' ;;
         'cbrowse-tree') words='-f --format -x --standard --prototypes -L --questions --exclude -j --all --force --verbose --no-progress -S --sshloginfile --transfer -h --help --version' ;;

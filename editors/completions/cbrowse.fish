@@ -28,6 +28,7 @@ complete -c cbrowse -n '__fish_seen_subcommand_from find' -l files-from -r -d 'F
 complete -c cbrowse -n '__fish_seen_subcommand_from find' -s h -l help -d 'Print help'
 complete -c cbrowse -n '__fish_seen_subcommand_from tags' -s x -d 'Write a listing to standard output instead'
 complete -c cbrowse -n '__fish_seen_subcommand_from tags' -s f -r -d 'Tags file to write, - for standard output'
+complete -c cbrowse -n '__fish_seen_subcommand_from tags' -l force -d 'Replace a file that is not a tags file'
 complete -c cbrowse -n '__fish_seen_subcommand_from tags' -l format -x -a '1 2' -d 'Format of the tags file: 1 for POSIX ctags, 2 with extension fields'
 complete -c cbrowse -n '__fish_seen_subcommand_from tags' -l wide -d 'Find enumerators, members and variables too, and names that macros hide'
 complete -c cbrowse -n '__fish_seen_subcommand_from tags' -l prototypes -d 'With --wide: find external declarations and prototypes too'

@@ -5,7 +5,7 @@
     verify/devices/full-devices.py --cbrowse PATH
 
 As root it mounts a small file system of its own. Each of these is one line on standard error and
-status 1, and what was taken is a prefix of what the program writes elsewhere:
+status 1. What was taken is a prefix of what the program writes elsewhere, and an old tags file stays:
 
     /dev/full    as standard output, and as the tags file
     closed       standard output is closed, or the reader of the pipe is, with SIGPIPE as a shell
@@ -49,6 +49,7 @@ WRITERS = [
     (["line", "large.c"], INPUT),
 ]
 TAGS = ["tags", "-f"]  # and then the tags file and large.c
+OLD = b"old\told.c\t1\n"  # a tags file that stays where a new one cannot be written
 
 
 class Checks:
@@ -190,13 +191,15 @@ def bounded(checks):
         is_file = "-f" in words
         whole = checks.whole_file() if is_file else checks.whole(words, given)
         said = b"cbrowse: bounded: cannot be written\n" if is_file else WRITE
+        tags.write_bytes(OLD)
+        before = set(os.listdir(checks.folder))
         for count in [*range(0, len(whole), 997), *range(1, 60), len(whole) - 1]:
             with open(out, "wb") as file:
                 ended = checks.run(words, given, before=with_bound(count), stdout=file)
-            taken = (tags if is_file else out).read_bytes()
-            checks.expect(words, f"with a bound of {count} bytes", ended, (1, said))
-            checks.expect(words, f"with a bound of {count} bytes", len(taken), count)
-            checks.expect_prefix(words, f"with a bound of {count} bytes", taken, whole, 0)
+            device = f"with a bound of {count} bytes"
+            checks.expect(words, device, ended, (1, said))
+            left = out.read_bytes(), tags.read_bytes(), set(os.listdir(checks.folder))
+            checks.expect(words, device, left, (whole[: 0 if is_file else count], OLD, before))
         with open(out, "wb") as file:
             ended = checks.run(words, given, before=with_bound(len(whole)), stdout=file)
         checks.expect(words, "with a bound of all its bytes", ended, (0, b""))
@@ -223,12 +226,14 @@ def full_disk(checks):
         tags, filler = disk / "tags", disk / "filler"
         words = [*TAGS, "disk/tags", "large.c"]
         for left in range(0, len(whole) // PIPE + 1):
-            tags.unlink(missing_ok=True)
-            filler.write_bytes(b"x" * (size - left * PIPE))
+            filler.unlink(missing_ok=True)
+            tags.write_bytes(OLD)
+            filler.write_bytes(b"x" * (size - (left + 1) * PIPE))
             ended = checks.run(words)
             device = f"on a disk with {left} pages left"
             checks.expect(words, device, ended, (1, b"cbrowse: disk/tags: cannot be written\n"))
-            checks.expect_prefix(words, device, tags.read_bytes(), whole, left * PIPE)
+            found = sorted(os.listdir(disk)), tags.read_bytes()
+            checks.expect(words, device, found, (["filler", "tags"], OLD))
         filler.unlink()
         checks.expect(words, "on a disk with room", checks.run(words), (0, b""))
         checks.expect(words, "on a disk with room", tags.read_bytes() == whole, True)

@@ -1,6 +1,6 @@
 -- Where no bounds, no rules, no files, no list that may be read or no root from `/` are found there
 -- is no job.
-use Rattle.std.proofs.Common.{◌≡◌, ◌∙◌, ap, sym, List, None, Some, true, false}
+use Rattle.std.proofs.Common.{◌≡◌, ◌∙◌, ap, sym, List, None, Some}
 use Rattle.std.proofs.lemmas.Bool.{true≢false}
 use Rattle.std.specs.Prelude.{is_some}
 use Rattle.clap.specs.Words.{Row, Text}
@@ -15,7 +15,7 @@ pub no_job : (found : Text × List Row) → ((b : WorldBounds) → AreBoundsOf f
     → (job : Job) → IsJobOf (Some found) job → ⊥
 no_job found none (Line bounds rules list files) is = none bounds is.1
 no_job found none (Find bounds rules field pattern list files) is = none bounds is.1
-no_job found none (Tags bounds rules listing tagsfile format list files) is = none bounds is.1
+no_job found none (Tags bounds rules listing tagsfile force format list files) is = none bounds is.1
 no_job found none (Lsp bounds rules root list files) is = none bounds is.1
 
 none_is : (r : Rules) → None ≡ Some r → ⊥
@@ -26,6 +26,6 @@ pub no_rules : (found : Text × List Row) → rules_in found.1 ≡ None
     → (job : Job) → IsJobOf (Some found) job → ⊥
 no_rules found none (Line bounds rules list files) is = none_is rules (sym none ∙ is.2)
 no_rules found none (Find bounds rules field pattern list files) is = none_is rules (sym none ∙ is.2)
-no_rules found none (Tags bounds rules listing tagsfile format list files) is =
+no_rules found none (Tags bounds rules listing tagsfile force format list files) is =
     none_is rules (sym none ∙ is.2)
 no_rules found none (Lsp bounds rules root list files) is = none_is rules (sym none ∙ is.2)

@@ -1,12 +1,12 @@
 -- The command line as clap is given it: with the texts that `--format` takes, which stand in
 -- memory, at a place that no definition names.
-use Rattle.std.specs.Prelude.{◌≡◌, List, [], ◌∷◌, Some, true, codes, map}
+use Rattle.std.specs.Prelude.{◌≡◌, List, [], ◌∷◌, Some, codes, map}
 use Rattle.std.specs.Borrow.{Bor}
 use Rattle.clap.specs.Words.{App, Row, Text, found_of, new_app, rows_of, with_rule, with_subcommand}
 use Rattle.clap.specs.declared.builder.ValueParser.TheVariants.{Names}
 use Rattle.clap.specs.declared.ArgMatches.{ArgMatches}
 use Rattle.cb_words.specs.Jobs.{find_app, format_rule, line_app, lsp_app}
-use Rattle.cb_words.specs.Jobs.{listing_rule, tagsfile_rule, with_bounds, with_files}
+use Rattle.cb_words.specs.Jobs.{listing_rule, with_bounds, with_files, with_output}
 use Rattle.cb_words.specs.Jobs.{with_profile, with_version}
 
 -- a command with `--format`, which takes these texts alone
@@ -17,7 +17,7 @@ with_format a choices = with_rule a (record format_rule { parser = Some (Names c
 abbrev pub tags_app_of : Bor (List (Bor Text)) → App
 tags_app_of choices =
     with_files (with_bounds (with_profile (with_format
-    (with_rule (with_rule (new_app (codes "tags")) listing_rule) tagsfile_rule) choices)))
+    (with_output (with_rule (new_app (codes "tags")) listing_rule)) choices)))
 
 -- the program's command, whose formats are these texts
 abbrev pub browse_app_of : Bor (List (Bor Text)) → App

@@ -43,6 +43,17 @@ abbrev pub tagsfile_rule : Rule
 tagsfile_rule = record (new_rule (codes "tagsfile"))
     { short = Some 102; value_names = 1; defaults = codes "tags" ∷ [] }
 
+-- `--force`
+abbrev pub force_rule : Rule
+force_rule = record (new_rule (codes "force")) {
+  long = Some (codes "force");
+  action = Some SetTrue;
+}
+
+-- a command with both
+abbrev pub with_output : App → App
+with_output a = with_rule (with_rule a tagsfile_rule) force_rule
+
 -- `--format FORMAT`, where nothing is said `--format 1`; that it takes 1 and 2 alone plays no part
 -- in what is found
 abbrev pub format_rule : Rule
@@ -106,12 +117,12 @@ find_app =
     with_files (with_bounds (with_profile (with_rule (with_rule (new_app (codes "find")) num_rule)
     pattern_rule)))
 
--- `tags [-x] [-f TAGSFILE] [--format FORMAT] [--wide] [--prototypes] [--max-files N]
+-- `tags [-x] [-f TAGSFILE] [--force] [--format FORMAT] [--wide] [--prototypes] [--max-files N]
 -- [--max-file-bytes N] [--files-from LIST] [FILE..]`: a tags file, or a listing
 abbrev pub tags_app : App
 tags_app =
-    with_files (with_bounds (with_profile (with_rule (with_rule (with_rule (new_app (codes "tags"))
-    listing_rule) tagsfile_rule) format_rule)))
+    with_files (with_bounds (with_profile (with_rule (with_output (with_rule
+    (new_app (codes "tags")) listing_rule)) format_rule)))
 
 -- `--root DIR`
 abbrev pub root_rule : Rule
@@ -231,7 +242,7 @@ IsJobOf (Some found) (Find bounds rules field pattern list files) =
     × (string_bytes pattern ≡ first_or (codes "pattern") [] found.1)
     × (string_bytes pattern ≢ [])
     × (map string_bytes files.items ≡ all_or_none (codes "files") found.1)
-IsJobOf (Some found) (Tags bounds rules listing tagsfile format list files) =
+IsJobOf (Some found) (Tags bounds rules listing tagsfile force format list files) =
     (found.0 ≡ codes "tags")
     × AreBoundsOf found.1 bounds
     × (rules_in found.1 ≡ Some rules)
@@ -239,6 +250,7 @@ IsJobOf (Some found) (Tags bounds rules listing tagsfile format list files) =
     × (option_map string_bytes list ≡ list_in found.1)
     × (listing ≡ is_set (codes "listing") found.1)
     × (string_bytes tagsfile ≡ first_or (codes "tagsfile") (codes "tags") found.1)
+    × (force ≡ is_set (codes "force") found.1)
     × (format_number format ≡ first_or (codes "format") (codes "1") found.1)
     × (map string_bytes files.items ≡ all_or_none (codes "files") found.1)
 IsJobOf (Some found) (Lsp bounds rules root list files) =

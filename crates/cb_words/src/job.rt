@@ -38,12 +38,13 @@ pub enum Job {
         files: Vec<String>,
     },
     /// The tags of these files: a listing on standard output, or else a tags file of this name and
-    /// form. The list `-` is standard input.
+    /// form, by force in the place of any file. The list `-` is standard input.
     Tags {
         bounds: Bounds,
         rules: Rules,
         listing: bool,
         tagsfile: String,
+        force: bool,
         format: Format,
         list: Option<String>,
         files: Vec<String>,

@@ -45,6 +45,6 @@ pub ready : (found : Option (Text × List Row)) (job : Job) → IsJobOf found jo
 ready None job is = absurd is
 ready (Some found) (Line bounds rules list files) is = tt
 ready (Some found) (Find bounds rules field pattern list files) is = is.7
-ready (Some found) (Tags bounds rules listing tagsfile format list files) is = tt
+ready (Some found) (Tags bounds rules listing tagsfile force format list files) is = tt
 ready (Some found) (Lsp bounds rules root list files) is =
     subst (λ n. 1 ≤ n) (sym is.1.history) (omega arith)

@@ -1,4 +1,5 @@
 pub mod Editors
 pub mod Narrowing
 mod Process
+pub mod Tagsfiles
 pub mod Working

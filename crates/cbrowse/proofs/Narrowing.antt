@@ -34,7 +34,8 @@ use Rattle.cb_words.specs.declared.job.Job.TheVariants.{Line, Find, Tags, Lsp}
 use Rattle.cb_lsp.specs.Documents.{Looked}
 use Rattle.cbrowse.specs.Messages.{profile_of}
 use Rattle.cbrowse.specs.Needs.{asked_by, needed_of, only}
-use Rattle.cbrowse.specs.Program.{DoesJob, WritesText, file_text, output_format, output_text}
+use Rattle.cbrowse.specs.Program.{DoesJob, file_text, output_format, output_text}
+use Rattle.cbrowse.specs.Writes.{WritesText}
 use Rattle.cbrowse.specs.Program.{tags_output}
 
 -- ---- worlds by another profile
@@ -171,7 +172,7 @@ abbrev pub meant : Job → State → State
 meant (Line bounds rules list files) s = s
 meant (Find bounds rules field pattern list files) s =
     record s { timeline = timeline_by (all_by rules) s.timeline }
-meant (Tags bounds rules listing tagsfile format list files) s =
+meant (Tags bounds rules listing tagsfile force format list files) s =
     record s { timeline = timeline_by (all_by rules) s.timeline }
 meant (Lsp bounds rules root list files) s = s
 
@@ -188,9 +189,9 @@ loads_meant (Find bounds rules field pattern list files) b fs (Ok s) loads =
     (loads_by (all_by rules) 0 _ fs _ loads.0, loads.1, loads.2)
 loads_meant (Find bounds rules field pattern list files) b fs (Err stop) loads =
     loads_by (all_by rules) 0 _ fs _ loads
-loads_meant (Tags bounds rules listing tagsfile format list files) b fs (Ok s) loads =
+loads_meant (Tags bounds rules listing tagsfile force format list files) b fs (Ok s) loads =
     (loads_by (all_by rules) 0 _ fs _ loads.0, loads.1, loads.2)
-loads_meant (Tags bounds rules listing tagsfile format list files) b fs (Err stop) loads =
+loads_meant (Tags bounds rules listing tagsfile force format list files) b fs (Err stop) loads =
     loads_by (all_by rules) 0 _ fs _ loads
 loads_meant (Lsp bounds rules root list files) b fs (Ok s) loads = loads
 loads_meant (Lsp bounds rules root list files) b fs (Err stop) loads = loads
@@ -199,7 +200,7 @@ pub text_meant : (job : Job) (s : State) → s.timeline.present.profile ≡ need
     → file_text job s.timeline.present ≡ file_text job (meant job s).timeline.present
 text_meant (Line bounds rules list files) s by = refl
 text_meant (Find bounds rules field pattern list files) s by = refl
-text_meant (Tags bounds rules listing tagsfile format list files) s by =
+text_meant (Tags bounds rules listing tagsfile force format list files) s by =
     tags_by rules listing format s.timeline.present by
 text_meant (Lsp bounds rules root list files) s by = refl
 
@@ -222,18 +223,18 @@ does_meant finds (Find bounds rules field pattern list files) lines limit s feed
     by does = absurd does
 does_meant finds (Find bounds rules field pattern list files) lines limit s feed feed' old new Unwritable
     by does = absurd does
-does_meant finds (Tags bounds rules listing tagsfile format list files) lines limit s feed feed' old new
+does_meant finds (Tags bounds rules listing tagsfile force format list files) lines limit s feed feed' old new
     (Ran ended) by does = (
       does.0,
       subst (λ text. WritesText text old new ended)
           (tags_by rules listing format s.timeline.present by) does.1,
     )
-does_meant finds (Tags bounds rules listing tagsfile format list files) lines limit s feed feed' old new
+does_meant finds (Tags bounds rules listing tagsfile force format list files) lines limit s feed feed' old new
     (Served end) by does = absurd does
-does_meant finds (Tags bounds rules listing tagsfile format list files) lines limit s feed feed' old new
+does_meant finds (Tags bounds rules listing tagsfile force format list files) lines limit s feed feed' old new
     (Unreadable place) by does = absurd does
-does_meant finds (Tags bounds rules listing tagsfile format list files) lines limit s feed feed' old new
+does_meant finds (Tags bounds rules listing tagsfile force format list files) lines limit s feed feed' old new
     Unlisted by does = absurd does
-does_meant finds (Tags bounds rules listing tagsfile format list files) lines limit s feed feed' old new
+does_meant finds (Tags bounds rules listing tagsfile force format list files) lines limit s feed feed' old new
     Unwritable by does = absurd does
 does_meant finds (Lsp bounds rules root list files) lines limit s feed feed' old new end by does = does

@@ -16,38 +16,38 @@ use Rattle.cb_tags.specs.Readers.{Reader}
 use Rattle.cb_tags.specs.Writers.{Writer}
 use Rattle.cb_words.specs.declared.job.Usage.{Usage}
 use Rattle.cbrowse.specs.Endings.{EndsJob, EndsProcess, EndsUsage, TakesWords}
+use Rattle.cbrowse.specs.Files.{Disk}
 use Rattle.cbrowse.specs.Messages.{Says, usage_said, usage_status}
 use Rattle.cb_words.specs.Usages.{IsUsageOf}
 
 -- the words were taken
-pub process_ran : (words : Result (IntoIter (String Global) Global) Error)
+pub process_ran : (disk : Disk) (words : Result (IntoIter (String Global) Global) Error)
     (taken : Vec (String Global) Global) (slice : List (String Global)) (status : ℕ)
     (feed feed' : Reader)
     (out out' errors errors' : Writer) → TakesWords words (Ok taken) → slice ≡ taken.items
-    → EndsJob (map string_bytes slice) status feed feed' out out' errors errors'
-    ⊎ EndsUsage (map string_bytes slice) status feed feed' out out' errors errors'
-    → EndsProcess words status feed feed' out out' errors errors'
-process_ran (Ok given) taken slice status feed feed' out out' errors errors' t same e =
-    subst (λ ws. EndsJob (map string_bytes ws) status feed feed' out out' errors errors'
-    ⊎ EndsUsage (map string_bytes ws) status feed feed' out out' errors errors') (same ∙ t) e
-process_ran (Err error) taken slice status feed feed' out out' errors errors' t same e = absurd t
+    → EndsJob disk (map string_bytes slice) status feed feed' out out' errors errors'
+    ⊎ EndsUsage disk (map string_bytes slice) status feed feed' out out' errors errors'
+    → EndsProcess disk words status feed feed' out out' errors errors'
+process_ran disk (Ok given) taken slice status feed feed' out out' errors errors' t same e =
+    subst (λ ws. EndsJob disk (map string_bytes ws) status feed feed' out out' errors errors'
+    ⊎ EndsUsage disk (map string_bytes ws) status feed feed' out out' errors errors') (same ∙ t) e
+process_ran disk (Err error) taken slice status feed feed' out out' errors errors' t same e =
+    absurd t
 
 -- there are none
-pub process_refused : (words : Result (IntoIter (String Global) Global) Error) (usage : Usage)
-    (status : ℕ) (feed : Reader)
-    (out errors errors' : Writer) → TakesWords words (Err usage) → status ≡ usage_status usage
-    → Says errors errors' (usage_said usage)
-    → EndsProcess words status feed feed out out errors errors'
-process_refused (Ok given) usage status feed out errors errors' t is says =
+pub process_refused : (disk : Disk) (words : Result (IntoIter (String Global) Global) Error)
+    (usage : Usage) (status : ℕ) (feed : Reader)
+    (out errors errors' : Writer) → TakesWords words (Err usage) → disk.done []
+    → status ≡ usage_status usage → Says errors errors' (usage_said usage)
+    → EndsProcess disk words status feed feed out out errors errors'
+process_refused disk (Ok given) usage status feed out errors errors' t none is says =
     inr (
       usage,
       subst (IsUsageOf (map string_bytes (into_iter_items given))) (sym t) tt,
-      (refl, refl),
-      is,
-      says,
+      ((refl, refl), none, is, says),
     )
-process_refused (Err error) usage status feed out errors errors' t is says =
-    (usage, t, (refl, refl), is, says)
+process_refused disk (Err error) usage status feed out errors errors' t none is says =
+    (usage, t, ((refl, refl), none, is, says))
 
 -- the words are collected
 pub collected : (given : IntoIter (String Global) Global) {E : Type 0}

@@ -1,8 +1,10 @@
 -- A job over files: from the loads to what is done.
-use Rattle.std.proofs.Common.{arith, ◌≡◌, ◌∙◌, ◌<◌, ap, length, string_bytes, take, String, subst}
-use Rattle.std.proofs.Common.{sym, refl, inr, ℕ, Bool, true, false, List, [], ◌∷◌, map, Option, Some}
-use Rattle.std.proofs.Common.{None, Result, Ok, Err}
-use Rattle.std.proofs.lemmas.List.{length-map, take-map}
+use Rattle.std.proofs.Common.{arith, ◌≡◌, ◌∙◌, ◌<◌, ◌++◌, ap, length, string_bytes, take, String}
+use Rattle.std.proofs.Common.{subst, sym, refl, inl, inr, ℕ, Bool, true, false, List, [], ◌∷◌, map}
+use Rattle.std.proofs.Common.{Result, Ok, Err}
+use Rattle.std.specs.List.{AllByRecursion, slice_index_or}
+use Rattle.std.proofs.Math.ListN.{get_or}
+use Rattle.std.proofs.lemmas.List.{get_or-map, length-map, take-map}
 use Rattle.std.specs.Global.{Global}
 use Rattle.cb_scan.specs.declared.profile.Profile.{Profile}
 use Rattle.cb_desk.specs.Timeline.{new_timeline}
@@ -23,22 +25,25 @@ use Rattle.cb_words.specs.declared.job.Job.{Job}
 use Rattle.cb_words.specs.declared.job.Job.TheVariants.{Line, Find, Tags, Lsp}
 use Rattle.cbrowse.specs.Messages.{bounds_of, files_of, most_line_bytes}
 use Rattle.cbrowse.specs.Needs.{needed_of}
-use Rattle.cbrowse.specs.Program.{any_finding}
-use Rattle.cbrowse.specs.Program.{DoesFrom, DoesInto, DoesJob, DoesLoaded, MakesFile, Reaches}
-use Rattle.cbrowse.specs.Program.{Works, file_text}
-use Rattle.cbrowse.specs.Program.{most_lines, writes_file}
+use Rattle.cbrowse.specs.Files.{Disk, IsFound, IsUnreadable}
+use Rattle.cbrowse.specs.Program.{AreFound, DoesFrom, DoesInto, DoesJob, DoesLoaded, FindsFirst}
+use Rattle.cbrowse.specs.Program.{Reaches, StopsAt, StopsReading, Works, file_text, most_lines}
+use Rattle.cbrowse.specs.Program.{most_read, names_of, writes_file}
+use Rattle.cbrowse.specs.Tagsfile.{MakesFile}
 use Rattle.cbrowse.proofs.Narrowing.{does_meant, kept_by_loads, loads_meant, meant, meant_end}
 use Rattle.cbrowse.proofs.Narrowing.{text_meant}
 
--- operands under the names of a job's files are contents of those files, and their loads lead to
+-- operands under the names of a job's files that were found are these files, and their loads lead to
 -- where those by all facts would lead
-pub reaches : (job : Job) (ops : List Operand) (b : WorldBounds) (p : Profile)
+pub reaches : (disk : Disk) (job : Job) (ops : List Operand) (b : WorldBounds) (p : Profile)
     (end : Result State RefusedOperand) → b ≡ bounds_of job → p ≡ needed_of job
-    → map (λ o. o.name.items) ops ≡ files_of job
-    → LoadsAll p b (map file_of_operand ops) end → Reaches job (meant_end job end)
-reaches job ops b p end same alike named loads = (
+    → names_of ops ≡ files_of job → AreFound disk.finds (most_read b) ops
+    → LoadsAll p b (map file_of_operand ops) end → Reaches disk job (meant_end job end)
+reaches disk job ops b p end same alike named found loads = (
   map file_of_operand ops,
   names ops ∙ named,
+  are (most_read (bounds_of job)) ops
+      (subst (λ x. AreFound disk.finds (most_read x) ops) same found),
   loads_meant job (bounds_of job) (map file_of_operand ops) end
       (subst (λ q. LoadsAll q (bounds_of job) (map file_of_operand ops) end) alike
       (subst (λ x. LoadsAll p x (map file_of_operand ops) end) same loads)),
@@ -48,6 +53,11 @@ reaches job ops b p end same alike named loads = (
         → map (λ f. f.name) (map file_of_operand os) ≡ map (λ o. o.name.items) os
     names [] = refl
     names (o ∷ os) = ap (λ ns. o.name.items ∷ ns) (names os)
+
+    are : (most : ℕ) (os : List Operand) → AreFound disk.finds most os
+        → AllByRecursion (IsFound disk.finds most) (map file_of_operand os)
+    are most [] all = tt
+    are most (o ∷ os) all = (all.0, are most os all.1)
 
 -- what was loaded has the profile of the loads
 pub by_needed : (job : Job) (ops : List Operand) (b : WorldBounds) (p : Profile) (s : State)
@@ -68,41 +78,37 @@ within_bounds job ops b p s same loads =
     ∙ same
 
 -- an operand was refused
-pub stopped : (job : Job) (ops : List Operand) (b : WorldBounds) (p : Profile) (feed : Reader)
-    (out : Writer) (ended : Ended) → b ≡ bounds_of job → p ≡ needed_of job
-    → map (λ o. o.name.items) ops ≡ files_of job
-    → Prepares p b (map file_of_operand ops) (Err ended)
-    → (end : Result State RefusedOperand) × Reaches job end
-    × DoesLoaded job end feed feed out out ended None
-stopped job ops b p feed out (StoppedAt place why) same alike named at = (
+pub stopped : (disk : Disk) (job : Job) (ops : List Operand) (b : WorldBounds) (p : Profile)
+    (feed : Reader) (out : Writer) (ended : Ended) → b ≡ bounds_of job → p ≡ needed_of job
+    → names_of ops ≡ files_of job → AreFound disk.finds (most_read b) ops
+    → Prepares p b (map file_of_operand ops) (Err ended) → disk.done []
+    → (end : Result State RefusedOperand) × Reaches disk job end
+    × DoesLoaded disk job end feed feed out out ended
+stopped disk job ops b p feed out (StoppedAt place why) same alike named found at none = (
   Err (record { place = place; why = why }),
-  reaches job ops b p (Err (record { place = place; why = why })) same alike named at,
-  (refl, (refl, refl), refl),
+  reaches disk job ops b p (Err (record { place = place; why = why })) same alike named found at,
+  (refl, (refl, refl), none),
 )
-stopped job ops b p feed out Done same alike named at = absurd at
-stopped job ops b p feed out Cut same alike named at = absurd at
-stopped job ops b p feed out (Fault fault) same alike named at = absurd at
+stopped disk job ops b p feed out Done same alike named found at none = absurd at
+stopped disk job ops b p feed out Cut same alike named found at none = absurd at
+stopped disk job ops b p feed out (Fault fault) same alike named found at none = absurd at
 
-goes : (job : Job) (t : State) (feed feed' : Reader) (out : Writer) (f : Finish)
-    (file : Option Writer) → writes_file job ≡ true → Reaches job (Ok t)
-    → MakesFile (file_text job t.timeline.present) file f → feed' ≡ feed
-    → Works job feed feed' out out f file
-goes job t feed feed' out (Ran ended) file writes reached makes same =
+goes : (disk : Disk) (job : Job) (t : State) (feed feed' : Reader) (out : Writer) (f : Finish)
+    → writes_file job ≡ true → Reaches disk job (Ok t)
+    → MakesFile disk job (file_text job t.timeline.present) f → feed' ≡ feed
+    → Works disk job feed feed' out out f
+goes disk job t feed feed' out (Ran ended) writes reached makes same =
     inr (
       Ok t,
       reached,
-      subst (λ b. DoesInto b t job feed feed' out out (Ran ended) file) (sym writes)
+      subst (λ b. DoesInto disk b t job feed feed' out out (Ran ended)) (sym writes)
           (makes, (same, refl)),
     )
-goes job t feed feed' out Unwritable file writes reached makes same =
+goes disk job t feed feed' out Unwritable writes reached makes same =
     (writes, (t, reached, makes), (same, refl))
-goes job t feed feed' out (Served end) (Some file) writes reached makes same = absurd makes.1
-goes job t feed feed' out (Served end) None writes reached makes same = absurd makes
-goes job t feed feed' out (Unreadable place) (Some file) writes reached makes same =
-    absurd makes.1
-goes job t feed feed' out (Unreadable place) None writes reached makes same = absurd makes
-goes job t feed feed' out Unlisted (Some file) writes reached makes same = absurd makes.1
-goes job t feed feed' out Unlisted None writes reached makes same = absurd makes
+goes disk job t feed feed' out (Served end) writes reached makes same = absurd makes
+goes disk job t feed feed' out (Unreadable place) writes reached makes same = absurd makes
+goes disk job t feed feed' out Unlisted writes reached makes same = absurd makes
 
 -- a job that is done has run
 abbrev HasRun : Finish → Type 0
@@ -120,7 +126,7 @@ has_run finds (Line bounds rules list files) lines limit t feed feed' out out' (
     does
 has_run finds (Find bounds rules field pattern list files) lines limit t feed feed' out out' (Unreadable place) does =
     does
-has_run finds (Tags bounds rules listing tagsfile format list files) lines limit t feed feed' out out' (Unreadable place) does =
+has_run finds (Tags bounds rules listing tagsfile force format list files) lines limit t feed feed' out out' (Unreadable place) does =
     does
 has_run finds (Lsp bounds rules root list files) lines limit t feed feed' out out' (Unreadable place) does =
     does
@@ -128,7 +134,7 @@ has_run finds (Line bounds rules list files) lines limit t feed feed' out out' U
     does
 has_run finds (Find bounds rules field pattern list files) lines limit t feed feed' out out' Unlisted does =
     does
-has_run finds (Tags bounds rules listing tagsfile format list files) lines limit t feed feed' out out' Unlisted does =
+has_run finds (Tags bounds rules listing tagsfile force format list files) lines limit t feed feed' out out' Unlisted does =
     does
 has_run finds (Lsp bounds rules root list files) lines limit t feed feed' out out' Unlisted does =
     does
@@ -136,31 +142,31 @@ has_run finds (Line bounds rules list files) lines limit t feed feed' out out' U
     does
 has_run finds (Find bounds rules field pattern list files) lines limit t feed feed' out out' Unwritable does =
     does
-has_run finds (Tags bounds rules listing tagsfile format list files) lines limit t feed feed' out out' Unwritable does =
+has_run finds (Tags bounds rules listing tagsfile force format list files) lines limit t feed feed' out out' Unwritable does =
     does
 has_run finds (Lsp bounds rules root list files) lines limit t feed feed' out out' Unwritable does =
     does
 
 -- a job from where the loads of its operands lead
-pub from_loads : (job : Job) (ops : List Operand) (b : WorldBounds) (p : Profile) (s : State)
-    (feed feed' : Reader) (out out' : Writer) (end : Finish) (file : Option Writer)
-    → b ≡ bounds_of job → p ≡ needed_of job → map (λ o. o.name.items) ops ≡ files_of job
-    → LoadsAll p b (map file_of_operand ops) (Ok s)
-    → DoesFrom s job feed feed' out out' end file → Works job feed feed' out out' end file
-from_loads job ops b p s feed feed' out out' end file same alike named loads does =
+pub from_loads : (disk : Disk) (job : Job) (ops : List Operand) (b : WorldBounds) (p : Profile)
+    (s : State) (feed feed' : Reader) (out out' : Writer) (end : Finish)
+    → b ≡ bounds_of job → p ≡ needed_of job → names_of ops ≡ files_of job
+    → AreFound disk.finds (most_read b) ops → LoadsAll p b (map file_of_operand ops) (Ok s)
+    → DoesFrom disk s job feed feed' out out' end → Works disk job feed feed' out out' end
+from_loads disk job ops b p s feed feed' out out' end same alike named found loads does =
     by (writes_file job) refl does
   where
     t : State
     t = meant job s
 
-    reached : Reaches job (Ok t)
-    reached = reaches job ops b p (Ok s) same alike named loads
+    reached : Reaches disk job (Ok t)
+    reached = reaches disk job ops b p (Ok s) same alike named found loads
 
     kept : s.timeline.present.profile ≡ needed_of job
     kept = by_needed job ops b p s alike loads
 
-    go : (e : Finish) → HasRun e → DoesFrom t job feed feed' out out' e None
-        → Works job feed feed' out out' e None
+    go : (e : Finish) → HasRun e → DoesFrom disk t job feed feed' out out' e
+        → Works disk job feed feed' out out' e
     go (Ran ended) ran from = inr (Ok t, reached, from)
     go (Served how) ran from = (t, reached, from)
     go (Unreadable place) ran from = absurd ran
@@ -168,28 +174,67 @@ from_loads job ops b p s feed feed' out out' end file same alike named loads doe
     go Unwritable ran from = absurd ran
 
     by : (into : Bool) → writes_file job ≡ into
-        → DoesInto into s job feed feed' out out' end file → Works job feed feed' out out' end file
+        → DoesInto disk into s job feed feed' out out' end → Works disk job feed feed' out out' end
     by true writes (makes, (left, alone)) =
-        subst (λ o. Works job feed feed' out o end file) (sym alone)
-        (goes job t feed feed' out end file writes reached
-        (subst (λ text. MakesFile text file end) (text_meant job s kept) makes) left)
-    by false writes (done, none) =
-        subst (λ f. Works job feed feed' out out' end f) (sym none)
-        (go end (has_run any_finding job most_lines (most_line_bytes (bounds_of job)) s feed feed'
-        out out' end done)
-        (subst (λ x. DoesInto x t job feed feed' out out' end None) (sym writes) (
-          does_meant any_finding job most_lines (most_line_bytes (bounds_of job)) s feed feed' out
-              out' end kept done,
-          refl,
-        )))
+        subst (λ o. Works disk job feed feed' out o end) (sym alone)
+        (goes disk job t feed feed' out end writes reached
+        (subst (λ text. MakesFile disk job text end) (text_meant job s kept) makes) left)
+    by false writes (does, none) =
+        go end (has_run disk.finds job most_lines (most_line_bytes (bounds_of job)) s feed feed'
+        out out' end does)
+        (subst (λ x. DoesInto disk x t job feed feed' out out' end) (sym writes) (
+          does_meant disk.finds job most_lines (most_line_bytes (bounds_of job)) s feed feed' out
+              out' end kept does,
+          none,
+        ))
 
--- a file that can't be read, behind those that were
-pub stops_at : (names : List (List ℕ)) (files : List (String Global)) (idx place : ℕ) → place ≡ idx
-    → idx < length files
-    → names ≡ map string_bytes (take idx files)
-    → (place < length (map string_bytes files)) × (names ≡ take place (map string_bytes files))
-stops_at names files idx place same within read = (
-  omega (arith, same, within, length-map files string_bytes),
-  read ∙ sym (take-map string_bytes idx files)
-      ∙ ap (λ k. take k (map string_bytes files)) (sym same),
+-- one more was found
+pub found_more : (finds : Looked → Type 0) (most : ℕ) (os : List Operand) (o : Operand)
+    → AreFound finds most os → IsFound finds most (file_of_operand o)
+    → AreFound finds most (os ++ o ∷ [])
+found_more finds most [] o all is = (is, tt)
+found_more finds most (x ∷ os) o all is = (all.0, found_more finds most os o all.1 is)
+
+-- a file ends the reading, after those that were read
+pub stops_at : (finds : Looked → Type 0) (most : ℕ) (files : List (String Global))
+    (ops : List Operand) (item : String Global) (name : List ℕ) (idx place : ℕ) (end : Finish)
+    → place ≡ idx → idx < length files → item ≡ get_or files idx item → name ≡ string_bytes item
+    → names_of ops ≡ map string_bytes (take idx files) → AreFound finds most ops
+    → StopsAt finds most name place end → StopsReading finds most (map string_bytes files) end
+stops_at finds most files ops item name idx place (Ran ended) at within is named read found stops =
+    stops
+stops_at finds most files ops item name idx place (Unreadable n) at within is named read found
+    stops = (
+      omega (arith, stops.0, at, within, length-map files string_bytes),
+      subst (IsUnreadable finds most)
+          (named ∙ ap string_bytes is ∙ sym (get_or-map string_bytes files idx item [] within)
+          ∙ ap (λ k. slice_index_or (map string_bytes files) k []) (sym (stops.0 ∙ at))) stops.1,
+      (
+        ops,
+        read ∙ sym (take-map string_bytes idx files)
+            ∙ ap (λ k. take k (map string_bytes files)) (sym (stops.0 ∙ at)),
+        found,
+      ),
+    )
+stops_at finds most files ops item name idx place (Served how) at within is named read found stops =
+    absurd stops
+stops_at finds most files ops item name idx place Unlisted at within is named read found stops =
+    absurd stops
+stops_at finds most files ops item name idx place Unwritable at within is named read found stops =
+    absurd stops
+
+-- and then nothing is done
+pub stops : (disk : Disk) (job : Job) (b : WorldBounds) (files : List (List ℕ)) (feed : Reader)
+    (out : Writer) (end : Finish) → b ≡ bounds_of job → files ≡ files_of job
+    → StopsReading disk.finds (most_read b) files end → disk.done []
+    → Works disk job feed feed out out end
+stops disk job b files feed out (Ran ended) same named is none = inl (is, (refl, refl), none)
+stops disk job b files feed out (Unreadable place) same named is none = (
+  subst (λ x. FindsFirst disk.finds (most_read x) (files_of job) place) same
+      (subst (λ fs. FindsFirst disk.finds (most_read b) fs place) named is),
+  (refl, refl),
+  none,
 )
+stops disk job b files feed out (Served how) same named is none = absurd is
+stops disk job b files feed out Unlisted same named is none = absurd is
+stops disk job b files feed out Unwritable same named is none = absurd is

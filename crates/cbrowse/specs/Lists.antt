@@ -1,5 +1,5 @@
 -- A list of files: its text, the names in it, and the job to which they are added.
-use Rattle.std.specs.Prelude.{◌≡◌, ◌≤◌, ◌⊎◌, ℕ, Bool, true, false, List, [], ◌++◌, length, map}
+use Rattle.std.specs.Prelude.{◌≡◌, ◌≤◌, ◌⊎◌, ◌+◌, ℕ, Bool, true, false, List, [], ◌++◌, length, map}
 use Rattle.std.specs.Prelude.{Option, None, Some, string_bytes}
 use Rattle.bstr.specs.Text.{lines_of, without_terminator}
 use Rattle.cb_session.specs.declared.input.Fault.TheVariants.{Memory}
@@ -10,6 +10,7 @@ use Rattle.cb_tags.specs.Writers.{Writer}
 use Rattle.cb_words.specs.Jobs.{is_standard_input, most_file_bytes}
 use Rattle.cb_words.specs.declared.job.Job.{Job}
 use Rattle.cb_words.specs.declared.job.Job.TheVariants.{Line, Find, Tags, Lsp}
+use Rattle.cbrowse.specs.Files.{Disk, Sight, begins}
 use Rattle.cbrowse.specs.Messages.{list_of}
 use Rattle.cbrowse.specs.Program.{Works}
 use Rattle.cbrowse.specs.declared.execute.finish.Finish.{Finish}
@@ -26,10 +27,15 @@ ReadsAll feed feed' text =
     HasRead feed feed' text × (feed'.stage ≡ Ended) × (feed'.bytes ≡ Some [])
 
 -- the text of a list, which may be as long as the largest file: that of standard input is all that
--- is left there, and where it is that of a file the reader is left alone
-abbrev pub IsListText : (input : Bool) → Reader → Reader → List ℕ → Type 0
-IsListText true feed feed' text = (length text ≤ most_file_bytes) × ReadsAll feed feed' text
-IsListText false feed feed' text = (length text ≤ most_file_bytes) × (feed' ≡ feed)
+-- is left there; that of a file is what the file begins with, where one byte more would be read, and
+-- the reader is left alone
+abbrev pub IsListText : (shows : Sight → Type 0) → (list : List ℕ) → (input : Bool)
+    → Reader → Reader → List ℕ → Type 0
+IsListText shows list true feed feed' text =
+    (length text ≤ most_file_bytes) × ReadsAll feed feed' text
+IsListText shows list false feed feed' text =
+    (length text ≤ most_file_bytes) × shows (begins list (most_file_bytes + 1) text)
+    × (feed' ≡ feed)
 
 -- there is no list: memory was refused, or it can't be read
 abbrev pub IsNoList : Finish → Type 0
@@ -53,22 +59,22 @@ HasMore (Find bounds rules field pattern list files) names
     (Find bounds' rules' field' pattern' list' files') =
     (bounds' ≡ bounds) × (rules' ≡ rules) × (field' ≡ field) × (pattern' ≡ pattern)
     × (list' ≡ list) × (map string_bytes files'.items ≡ map string_bytes files.items ++ names)
-HasMore (Tags bounds rules listing tagsfile format list files) names
-    (Tags bounds' rules' listing' tagsfile' format' list' files') =
+HasMore (Tags bounds rules listing tagsfile force format list files) names
+    (Tags bounds' rules' listing' tagsfile' force' format' list' files') =
     (bounds' ≡ bounds) × (rules' ≡ rules) × (listing' ≡ listing) × (tagsfile' ≡ tagsfile)
-    × (format' ≡ format) × (list' ≡ list)
+    × (force' ≡ force) × (format' ≡ format) × (list' ≡ list)
     × (map string_bytes files'.items ≡ map string_bytes files.items ++ names)
 HasMore (Lsp bounds rules root list files) names (Lsp bounds' rules' root' list' files') =
     (bounds' ≡ bounds) × (rules' ≡ rules) × (root' ≡ root) × (list' ≡ list)
     × (map string_bytes files'.items ≡ map string_bytes files.items ++ names)
 HasMore _ names _ = ⊥
 
--- the names in the list of a job are added to it, for some text of that list; a job without a list
--- stays as it is
-abbrev pub TakesList : Option (List ℕ) → Job → Reader → Reader → Job → Type 0
-TakesList None asked feed feed' job = (job ≡ asked) × (feed' ≡ feed)
-TakesList (Some list) asked feed feed' job =
-    (text : List ℕ) × IsListText (is_standard_input list) feed feed' text
+-- the names in the list of a job are added to it; a job without a list stays as it is
+abbrev pub TakesList : (shows : Sight → Type 0) → Option (List ℕ) → Job → Reader → Reader → Job
+    → Type 0
+TakesList shows None asked feed feed' job = (job ≡ asked) × (feed' ≡ feed)
+TakesList shows (Some list) asked feed feed' job =
+    (text : List ℕ) × IsListText shows list (is_standard_input list) feed feed' text
     × HasMore asked (names_in text) job
 
 -- a job has a list, and its text is not had
@@ -77,10 +83,10 @@ LacksList None feed feed' end = ⊥
 LacksList (Some list) feed feed' end = HasNoList (is_standard_input list) feed feed' end
 
 -- the job is done with the names in its list; or these are not had, and nothing is done
-abbrev pub WorksListed : (asked job : Job) → Reader → Reader → Writer → Writer → Finish
-    → Option Writer → Type 0
-WorksListed asked job feed feed' out out' end file =
-    ((middle : Reader) × TakesList (list_of asked) asked feed middle job
-    × Works job middle feed' out out' end file)
+abbrev pub WorksListed : Disk → (asked job : Job) → Reader → Reader → Writer → Writer → Finish
+    → Type 0
+WorksListed disk asked job feed feed' out out' end =
+    ((middle : Reader) × TakesList disk.shows (list_of asked) asked feed middle job
+    × Works disk job middle feed' out out' end)
     ⊎ ((list_of job ≡ list_of asked) × LacksList (list_of asked) feed feed' end
-    × (out' ≡ out) × (file ≡ None))
+    × (out' ≡ out) × disk.done [])

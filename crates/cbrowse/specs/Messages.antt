@@ -34,14 +34,14 @@ use Rattle.cb_words.specs.declared.job.Usage.TheVariants.{Memory as NoMemory}
 abbrev pub files_of : Job → List (List ℕ)
 files_of (Line bounds rules list files) = map string_bytes files.items
 files_of (Find bounds rules field pattern list files) = map string_bytes files.items
-files_of (Tags bounds rules listing tagsfile format list files) = map string_bytes files.items
+files_of (Tags bounds rules listing tagsfile force format list files) = map string_bytes files.items
 files_of (Lsp bounds rules root list files) = map string_bytes files.items
 
 -- the name of a job's list of files
 abbrev pub list_of : Job → Option (List ℕ)
 list_of (Line bounds rules list files) = option_map string_bytes list
 list_of (Find bounds rules field pattern list files) = option_map string_bytes list
-list_of (Tags bounds rules listing tagsfile format list files) = option_map string_bytes list
+list_of (Tags bounds rules listing tagsfile force format list files) = option_map string_bytes list
 list_of (Lsp bounds rules root list files) = option_map string_bytes list
 
 -- the same, or nothing
@@ -52,14 +52,14 @@ list_name job = unwrap_or (list_of job) []
 abbrev pub bounds_of : Job → WorldBounds
 bounds_of (Line bounds rules list files) = bounds
 bounds_of (Find bounds rules field pattern list files) = bounds
-bounds_of (Tags bounds rules listing tagsfile format list files) = bounds
+bounds_of (Tags bounds rules listing tagsfile force format list files) = bounds
 bounds_of (Lsp bounds rules root list files) = bounds
 
 -- the rules of a job
 abbrev pub rules_of : Job → Rules
 rules_of (Line bounds rules list files) = rules
 rules_of (Find bounds rules field pattern list files) = rules
-rules_of (Tags bounds rules listing tagsfile format list files) = rules
+rules_of (Tags bounds rules listing tagsfile force format list files) = rules
 rules_of (Lsp bounds rules root list files) = rules
 
 -- the profile of a job: all facts by its rules
@@ -74,8 +74,15 @@ most_line_bytes b = max b.file_bytes 1000000
 abbrev pub tagsfile_of : Job → List ℕ
 tagsfile_of (Line bounds rules list files) = []
 tagsfile_of (Find bounds rules field pattern list files) = []
-tagsfile_of (Tags bounds rules listing tagsfile format list files) = string_bytes tagsfile
+tagsfile_of (Tags bounds rules listing tagsfile force format list files) = string_bytes tagsfile
 tagsfile_of (Lsp bounds rules root list files) = []
+
+-- a job's tags file takes the place of any file
+abbrev pub force_of : Job → Bool
+force_of (Line bounds rules list files) = false
+force_of (Find bounds rules field pattern list files) = false
+force_of (Tags bounds rules listing tagsfile force format list files) = force
+force_of (Lsp bounds rules root list files) = false
 
 -- a line that names the program
 abbrev pub error_line : List ℕ → List ℕ

@@ -29,7 +29,7 @@ asked_by Including = only false false false true
 abbrev pub needed_by : Job → Wanted
 needed_by (Line bounds rules list files) = all_wanted
 needed_by (Find bounds rules field pattern list files) = asked_by field
-needed_by (Tags bounds rules listing tagsfile format list files) = only true false false false
+needed_by (Tags bounds rules listing tagsfile force format list files) = only true false false false
 needed_by (Lsp bounds rules root list files) = all_wanted
 
 -- the rules of a job, and the facts that it reads

@@ -1,14 +1,10 @@
 -- What the program does: the files of a job are read and loaded, and then the job is done.
-use Rattle.std.specs.Prelude.{◌≡◌, ◌≢◌, ◌⊎◌, ◌||◌, ℕ, ◌≤◌, ◌<◌, ◌+◌, Bool, true, false, not, nat_eq}
-use Rattle.std.specs.Prelude.{List, [], IsTrue, length, take, Option, None, Some, Result, Ok, Err}
+use Rattle.std.specs.Prelude.{◌≡◌, ◌≢◌, ◌⊎◌, ◌||◌, ℕ, ◌≤◌, ◌<◌, ◌+◌, Bool, true, false, not}
+use Rattle.std.specs.Prelude.{List, [], IsTrue, length, take, Option, Result, Ok, Err}
 use Rattle.std.specs.Prelude.{codes, is_some, map, string_bytes, unwrap_or}
-use Rattle.std.specs.Fs.{metadata_len, new_options, with_create, with_truncate, with_write}
-use Rattle.std.specs.List.{ends_with, flat_map}
+use Rattle.std.specs.List.{AllByRecursion, flat_map, slice_index_or}
 use Rattle.std.specs.Option.{option_map}
 use Rattle.std.specs.Str.{bytes_eq}
-use Rattle.std.specs.declared.fs.attrs.Metadata.{Metadata}
-use Rattle.std.specs.declared.fs.options.OpenOptions.{OpenOptions}
-use Rattle.std.specs.Io.KnownBytes.{Appends}
 use Rattle.cb_desk.specs.Answer.{answer}
 use Rattle.cb_desk.specs.declared.rows.Format.{Format}
 use Rattle.cb_desk.specs.declared.rows.Format.TheVariants.{Extended}
@@ -20,17 +16,19 @@ use Rattle.cb_lsp.specs.Documents.{Looked}
 use Rattle.cb_lsp.specs.Messages.{Serving, fresh_server}
 use Rattle.cb_lsp.specs.Runs.{LeavesRun}
 use Rattle.cb_session.specs.declared.input.Ended.{Ended}
-use Rattle.cb_session.specs.declared.input.Ended.TheVariants.{Done, Fault, Operand as StoppedAt}
-use Rattle.cb_session.specs.declared.input.Fault.TheVariants.{Write, Memory}
+use Rattle.cb_session.specs.declared.input.Ended.TheVariants.{Fault, Operand as StoppedAt}
+use Rattle.cb_session.specs.declared.input.Fault.TheVariants.{Memory}
 use Rattle.cb_session.specs.declared.state.Operand.{Operand}
 use Rattle.cb_tags.specs.Readers.{Reader, WhateverFollows}
 use Rattle.cb_session.specs.Output.{row_line}
-use Rattle.cb_session.specs.Operands.{LoadsAll, RefusedOperand}
+use Rattle.cb_session.specs.Operands.{LoadsAll, RefusedOperand, file_of_operand}
 use Rattle.cb_session.specs.Serving.{Serves}
 use Rattle.cb_session.specs.States.{State}
 use Rattle.cb_tags.specs.TagLines.{Tag}
 use Rattle.cb_tags.specs.Writers.{Writer}
-use Rattle.cb_tags.specs.Writing.{AppendsPrefix}
+use Rattle.cbrowse.specs.Files.{Disk, IsFound, IsUnreadable}
+use Rattle.cbrowse.specs.Tagsfile.{MakesFile}
+use Rattle.cbrowse.specs.Writes.{WritesText}
 use Rattle.cbrowse.specs.declared.execute.finish.Finish.{Finish}
 use Rattle.cbrowse.specs.declared.execute.finish.Finish.TheVariants.{Ran, Served, Unreadable}
 use Rattle.cbrowse.specs.declared.execute.finish.Finish.TheVariants.{Unlisted, Unwritable}
@@ -63,13 +61,6 @@ output_text false format ts = tags_text format ts
 abbrev pub tags_output : (listing : Bool) → Format → World → List ℕ
 tags_output listing format w = output_text listing format (tags (output_format listing format) w)
 
--- the whole text was written and handed on; or the writer failed, and a prefix was written
-abbrev pub WritesText : List ℕ → Writer → Writer → Ended → Type 0
-WritesText text old new Done =
-    (new.failed ≡ false) × Appends old.bytes new.bytes text × (new.pending ≡ false)
-WritesText text old new (Fault Write) = (new.failed ≡ true) × AppendsPrefix old.bytes new.bytes text
-WritesText text old new _ = ⊥
-
 -- ---- a language server
 
 -- the version that the program tells
@@ -88,10 +79,6 @@ abbrev pub RunsServer : (finds : Looked → Type 0) → Option (List ℕ) → Wo
 RunsServer finds root w feed feed' old new end =
     (next : Serving) × WhateverFollows feed feed' (λ bytes left.
     LeavesRun finds bytes (server_of root w) next left old new end)
-
--- nothing is known of what a process finds in its files
-abbrev pub any_finding : Looked → Type 0
-any_finding looked = Unit {0}
 
 -- ---- a job over a session
 
@@ -112,7 +99,7 @@ DoesJob finds (Find bounds rules field pattern list files) lines limit s feed fe
     (feed' ≡ feed)
     × WritesText (flat_map row_line (answer s.timeline.present field (string_bytes pattern)))
     old new ended
-DoesJob finds (Tags bounds rules listing tagsfile format list files)
+DoesJob finds (Tags bounds rules listing tagsfile force format list files)
     lines limit s feed feed' old new (Ran ended) =
     (feed' ≡ feed) × WritesText (tags_output listing format s.timeline.present) old new ended
 DoesJob finds (Lsp bounds rules root list files) lines limit s feed feed' old new (Served end) =
@@ -129,23 +116,9 @@ is_standard_output name = bytes_eq name (codes "-")
 abbrev pub writes_file : Job → Bool
 writes_file (Line bounds rules list files) = false
 writes_file (Find bounds rules field pattern list files) = false
-writes_file (Tags bounds rules listing tagsfile format list files) =
+writes_file (Tags bounds rules listing tagsfile force format list files) =
     not (listing || is_standard_output (string_bytes tagsfile))
 writes_file (Lsp bounds rules root list files) = false
-
--- a file of this name may be a C source
-abbrev pub is_source_name : List ℕ → Bool
-is_source_name name = ends_with nat_eq name (codes ".c") || ends_with nat_eq name (codes ".h")
-
--- how a tags file is opened: it is made where it is not there, and emptied, unless its name is that
--- of a C source
-abbrev pub opening : List ℕ → OpenOptions
-opening name =
-    with_truncate (with_create (with_write new_options true) true) (not (is_source_name name))
-
--- a file that was opened under this name may be written: it is no C source that holds something
-abbrev pub MayWrite : List ℕ → Metadata → Type 0
-MayWrite name found = is_source_name name ≡ true → metadata_len found ≡ 0
 
 -- input and output are left alone
 abbrev pub LeavesAlone : Reader → Reader → Writer → Writer → Type 0
@@ -155,102 +128,89 @@ LeavesAlone feed feed' out out' = (feed' ≡ feed) × (out' ≡ out)
 abbrev pub file_text : Job → World → List ℕ
 file_text (Line bounds rules list files) w = []
 file_text (Find bounds rules field pattern list files) w = []
-file_text (Tags bounds rules listing tagsfile format list files) w = tags_output listing format w
+file_text (Tags bounds rules listing tagsfile force format list files) w = tags_output listing format w
 file_text (Lsp bounds rules root list files) w = []
-
--- a writer that has taken nothing yet
-abbrev pub fresh : Option (List ℕ) → Writer
-fresh bytes = record { bytes = bytes; failed = false; pending = false }
-
--- the whole text was written into a file and handed on; or the file can't be written, and a prefix
--- was written
-abbrev pub WritesFile : List ℕ → Writer → Writer → Finish → Type 0
-WritesFile text old new (Ran ended) = (ended ≡ Done) × WritesText text old new Done
-WritesFile text old new Unwritable = WritesText text old new (Fault Write)
-WritesFile text old new (Served end) = ⊥
-WritesFile text old new (Unreadable place) = ⊥
-WritesFile text old new Unlisted = ⊥
-
--- no tags file was made: memory was refused, or the file can't be made
-abbrev pub MakesNone : Finish → Type 0
-MakesNone (Ran ended) = ended ≡ Fault Memory
-MakesNone Unwritable = Unit {0}
-MakesNone (Served end) = ⊥
-MakesNone (Unreadable place) = ⊥
-MakesNone Unlisted = ⊥
-
--- a tags file was made and the text was written into it, or the file can't be written; or none was
--- made
-abbrev pub MakesFile : List ℕ → Option Writer → Finish → Type 0
-MakesFile text (Some file) end =
-    (held : Option (List ℕ)) × WritesFile text (fresh held) file end
-MakesFile text None end = MakesNone end
 
 -- the names of operands
 abbrev pub names_of : List Operand → List (List ℕ)
 names_of operands = map (λ operand. operand.name.items) operands
 
--- what a file that is opened late holds: nothing before it is open
-abbrev pub late_contents : {F : Type 0} → (F → Option (List ℕ)) → Option F → Option (List ℕ)
-late_contents contents None = Some []
-late_contents contents (Some file) = contents file
+-- operands are found as they are
+abbrev pub AreFound : (Looked → Type 0) → (most : ℕ) → List Operand → Type 0
+AreFound finds most operands =
+    AllByRecursion (λ operand. IsFound finds most (file_of_operand operand)) operands
 
--- reading the files stops: memory is refused, or the file at a place can't be read, and those
--- before it were
-abbrev pub StopsReading : List (List ℕ) → (read : List (List ℕ)) → Finish → Type 0
-StopsReading files read (Ran ended) = ended ≡ Fault Memory
-StopsReading files read (Unreadable place) =
-    (place < length files) × (read ≡ take place files)
-StopsReading files read (Served end) = ⊥
-StopsReading files read Unlisted = ⊥
-StopsReading files read Unwritable = ⊥
+-- the file of this name, at this place, ends a job: memory is refused for it, or it cannot be read
+abbrev pub StopsAt : (Looked → Type 0) → (most : ℕ) → (name : List ℕ) → (place : ℕ) → Finish
+    → Type 0
+StopsAt finds most name place (Ran ended) = ended ≡ Fault Memory
+StopsAt finds most name place (Unreadable at) = (at ≡ place) × IsUnreadable finds most name
+StopsAt finds most name place (Served end) = ⊥
+StopsAt finds most name place Unlisted = ⊥
+StopsAt finds most name place Unwritable = ⊥
 
--- the files of a job under their names, in order, with some contents, and where their loads lead
--- by the profile of the job, within its bounds
-abbrev pub Reaches : Job → Result State RefusedOperand → Type 0
-Reaches job end =
+-- the file at a place cannot be read, and those before it are found
+abbrev pub FindsFirst : (Looked → Type 0) → (most : ℕ) → List (List ℕ) → (place : ℕ) → Type 0
+FindsFirst finds most files place =
+    (place < length files) × IsUnreadable finds most (slice_index_or files place [])
+    × ((before : List Operand) × (names_of before ≡ take place files)
+    × AreFound finds most before)
+
+-- reading the files stops: memory is refused, or one cannot be read
+abbrev pub StopsReading : (Looked → Type 0) → (most : ℕ) → List (List ℕ) → Finish → Type 0
+StopsReading finds most files (Ran ended) = ended ≡ Fault Memory
+StopsReading finds most files (Unreadable place) = FindsFirst finds most files place
+StopsReading finds most files (Served end) = ⊥
+StopsReading finds most files Unlisted = ⊥
+StopsReading finds most files Unwritable = ⊥
+
+-- the files of a job under their names, in order, as they are found, and where their loads lead by
+-- the profile of the job, within its bounds
+abbrev pub Reaches : Disk → Job → Result State RefusedOperand → Type 0
+Reaches disk job end =
     (files : List File) × (map (λ f. f.name) files ≡ files_of job)
+    × AllByRecursion (IsFound disk.finds (most_read (bounds_of job))) files
     × LoadsAll (profile_of job) (bounds_of job) files end
 
 -- the job is done from a state: into a tags file, which leaves standard output alone, or over the
 -- input and output, and then no file is made
-abbrev pub DoesInto : (file : Bool) → State → Job → Reader → Reader → Writer → Writer → Finish
-    → Option Writer → Type 0
-DoesInto true s job feed feed' out out' end made =
-    MakesFile (file_text job s.timeline.present) made end × LeavesAlone feed feed' out out'
-DoesInto false s job feed feed' out out' end made =
-    DoesJob any_finding job most_lines (most_line_bytes (bounds_of job)) s feed feed' out out' end
-    × (made ≡ None)
+abbrev pub DoesInto : Disk → (file : Bool) → State → Job → Reader → Reader → Writer → Writer
+    → Finish → Type 0
+DoesInto disk true s job feed feed' out out' end =
+    MakesFile disk job (file_text job s.timeline.present) end × LeavesAlone feed feed' out out'
+DoesInto disk false s job feed feed' out out' end =
+    DoesJob disk.finds job most_lines (most_line_bytes (bounds_of job)) s feed feed' out out' end
+    × disk.done []
 
 -- the same, as the words of the job ask for
-abbrev pub DoesFrom : State → Job → Reader → Reader → Writer → Writer → Finish
-    → Option Writer → Type 0
-DoesFrom s job feed feed' out out' end made =
-    DoesInto (writes_file job) s job feed feed' out out' end made
+abbrev pub DoesFrom : Disk → State → Job → Reader → Reader → Writer → Writer → Finish → Type 0
+DoesFrom disk s job feed feed' out out' end =
+    DoesInto disk (writes_file job) s job feed feed' out out' end
 
 -- the job is done from where the loads lead; where one is refused nothing is done
-abbrev pub DoesLoaded : Job → Result State RefusedOperand → Reader → Reader → Writer
-    → Writer → Ended → Option Writer → Type 0
-DoesLoaded job (Err stop) feed feed' out out' ended file =
-    (ended ≡ StoppedAt stop.place stop.why) × LeavesAlone feed feed' out out' × (file ≡ None)
-DoesLoaded job (Ok s) feed feed' out out' ended file =
-    DoesFrom s job feed feed' out out' (Ran ended) file
+abbrev pub DoesLoaded : Disk → Job → Result State RefusedOperand → Reader → Reader → Writer
+    → Writer → Ended → Type 0
+DoesLoaded disk job (Err stop) feed feed' out out' ended =
+    (ended ≡ StoppedAt stop.place stop.why) × LeavesAlone feed feed' out out' × disk.done []
+DoesLoaded disk job (Ok s) feed feed' out out' ended =
+    DoesFrom disk s job feed feed' out out' (Ran ended)
 
--- a job is done, for some contents of its files; or memory was refused before their loads; or one
--- of them can't be read, or its tags file can't be written; a tags file is made only from where the
--- loads lead
-abbrev pub Works : Job → Reader → Reader → Writer → Writer → Finish → Option Writer → Type 0
-Works job feed feed' out out' (Ran ended) file =
-    ((ended ≡ Fault Memory) × LeavesAlone feed feed' out out' × (file ≡ None))
-    ⊎ ((end : Result State RefusedOperand) × Reaches job end
-    × DoesLoaded job end feed feed' out out' ended file)
-Works job feed feed' out out' (Served end) file =
-    (s : State) × Reaches job (Ok s) × DoesFrom s job feed feed' out out' (Served end) file
-Works job feed feed' out out' (Unreadable place) file =
-    (place < length (files_of job)) × LeavesAlone feed feed' out out' × (file ≡ None)
-Works job feed feed' out out' Unlisted file = ⊥
-Works job feed feed' out out' Unwritable file =
+-- a job is done over its files as they are found; or memory was refused before their loads; or one
+-- of them cannot be read, or its tags file cannot be written, and then no old one is lost; nothing is
+-- done to a file but from where the loads lead
+abbrev pub Works : Disk → Job → Reader → Reader → Writer → Writer → Finish → Type 0
+Works disk job feed feed' out out' (Ran ended) =
+    ((ended ≡ Fault Memory) × LeavesAlone feed feed' out out' × disk.done [])
+    ⊎ ((end : Result State RefusedOperand) × Reaches disk job end
+    × DoesLoaded disk job end feed feed' out out' ended)
+Works disk job feed feed' out out' (Served end) =
+    (s : State) × Reaches disk job (Ok s) × DoesFrom disk s job feed feed' out out' (Served end)
+Works disk job feed feed' out out' (Unreadable place) =
+    FindsFirst disk.finds (most_read (bounds_of job)) (files_of job) place
+    × LeavesAlone feed feed' out out' × disk.done []
+Works disk job feed feed' out out' Unlisted = ⊥
+Works disk job feed feed' out out' Unwritable =
     IsTrue (writes_file job)
-    × ((s : State) × Reaches job (Ok s)
-    × MakesFile (file_text job s.timeline.present) file Unwritable)
+    × ((s : State) × Reaches disk job (Ok s)
+    × MakesFile disk job (file_text job s.timeline.present) Unwritable)
     × LeavesAlone feed feed' out out'

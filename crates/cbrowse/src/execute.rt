@@ -1,17 +1,20 @@
 //! The program behind its entry: words in, a job done, an exit status out.
-ghost use Rattle.std.specs.Prelude.{◌≡◌, ◌≢◌, ◌≤◌, ◌⊎◌, [], true, false, IfOk, map, string_bytes};
+ghost use Rattle.std.specs.Prelude.{◌≡◌, ◌≢◌, ◌≤◌, ◌⊎◌, [], true, false, IfOk, map};
+ghost use Rattle.std.specs.Prelude.{string_bytes};
 ghost use Rattle.std.specs.Vec.Iter.{into_iter_items};
 ghost use Rattle.std.specs.List.{flat_map};
 ghost use Rattle.std.specs.Option.{MatchOption, option_map};
 ghost use Rattle.cb_desk.specs.Answer.{answer};
 ghost use Rattle.cb_session.specs.Output.{row_line};
-ghost use Rattle.cbrowse.specs.Endings.{EndsJob, EndsProcess, EndsUsage, TakesWords};
+ghost use Rattle.cb_tags.specs.Writers.{Writer};
+ghost use Rattle.cbrowse.specs.Endings.{EndsJob, EndsProcess, EndsRun, EndsUsage, TakesWords};
+ghost use Rattle.cbrowse.specs.Files.{disk_over};
 ghost use Rattle.cbrowse.specs.Lists.{WorksListed};
 ghost use Rattle.cbrowse.specs.Messages.{bounds_of, most_line_bytes, tagsfile_of};
 ghost use Rattle.cbrowse.specs.Program.{IsReady, RunsServer, output_format, output_text};
-ghost use Rattle.cbrowse.specs.Program.{tags_output, file_text, writes_file, WritesFile};
-ghost use Rattle.cbrowse.specs.Program.{WritesText, DoesFrom, DoesJob, fresh, Works, most_lines};
-ghost use Rattle.cbrowse.specs.Program.{server_of};
+ghost use Rattle.cbrowse.specs.Program.{tags_output, file_text, writes_file, server_of};
+ghost use Rattle.cbrowse.specs.Program.{DoesFrom, DoesJob, Works, most_lines};
+ghost use Rattle.cbrowse.specs.Writes.{WritesFile, WritesText, fresh};
 ghost use Rattle.cb_session.specs.Writing.{Puts};
 
 mod crowded;
@@ -19,12 +22,19 @@ mod files;
 mod finish;
 mod list;
 mod needs;
+mod process;
+mod storage;
+mod tagsfile;
 
 use crate::execute::crowded::wants_order;
-use crate::execute::files::{Folder, TagsFile, make_file, read_operands};
-use crate::execute::finish::{Finish, bounds_of, conclude, files_of, most_line_bytes};
+use crate::execute::files::read_operands;
+use crate::execute::finish::{
+    Finish, bounds_of, conclude, files_of, force_of, most_line_bytes, refuse,
+};
 use crate::execute::list::take_list;
 use crate::execute::needs::needed_of;
+use crate::execute::storage::Storage;
+use crate::execute::tagsfile::{begin, settle};
 use cb_desk::{Bounds, Desk, Field, Format, TagRows};
 use cb_lsp::{Disk, Ending, RunFault, Server};
 use cb_session::{
@@ -33,12 +43,11 @@ use cb_session::{
 use cb_tags::{Feed, Sink};
 use cb_wire::Root;
 use cb_words::{Job, Usage, VERSION, job_of};
-pub(crate) use finish::refuse;
+pub(crate) use process::Process;
 use std::alloc::{AllocError, Global};
 use std::env::Args;
-use std::io::{self, BufRead, ErrorKind, Write};
+use std::io::{self, BufRead, BufReader, BufWriter, ErrorKind, Read, Write};
 use std::mem::forget;
-use std::rt::Files;
 
 /// The limits of the program's runs.
 fn limits(bounds: Bounds) -> Limits
@@ -255,140 +264,160 @@ fn run_job_over<D: Disk, I: BufRead, W: Write>(
     }
 }
 
-/// Does a job of tags into a file that was just made: how it ended, and what the file was left as.
-fn run_job_into<D: Disk, I: BufRead, W: Write>(
+/// Does a job of tags into a file that was begun, which is closed then.
+fn run_job_into<D: Disk, I: BufRead, W: Write + Drop>(
     alloc: Global,
     disk: &D,
     job: &Job,
     session: Session,
     feed: &mut Feed<I>,
     writer: W,
-) -> (Finish, Sink<W>)
+) -> Finish
     requires file { writes_file job.now ≡ true }
     requires ready { IsReady job.now }
     requires bounds { session.timeline.present.bounds ≡ bounds_of job.now }
-    ensures written { WritesFile (file_text job.now session.timeline.present)
-        (fresh (W.contents writer)) result.1 result.0 }
+    ensures written { (file : Writer) × WritesFile (file_text job.now session.timeline.present)
+        (fresh (W.contents writer)) file result }
     ensures feed { feed.new ≡ feed.old }
 {
     let mut out = Sink::new(writer);
-    let end = run_job_over(alloc, disk, job, session, feed, &mut out);
-    (end, out)
+    run_job_over(alloc, disk, job, session, feed, &mut out)
 }
 
-/// Does a job from a session in which its files are loaded. A tags file is made or emptied only
-/// here, and handed back.
-fn do_job<R: Files + AllocGlobal, I: BufRead, O: Write>(
-    rt: &R,
-    folder: &str,
+/// Does a job from a session in which its files are loaded. Nothing is done to a file but here.
+fn do_job<D: Disk + Storage, I: BufRead, O: Write>(
+    alloc: Global,
+    disk: &mut D,
     job: &Job,
     session: Session,
     feed: &mut Feed<I>,
     out: &mut Sink<O>,
-) -> (Finish, Option<Sink<TagsFile<R::File>>>)
+) -> Finish
     requires ready { IsReady job.now }
     requires bounds { session.timeline.present.bounds ≡ bounds_of job.now }
-    ensures { DoesFrom session job.now feed.old feed.new out.old out.new result.0 result.1 }
+    ensures { DoesFrom (disk_over D.finds D.shows D.does disk.old disk.new) session job.now
+        feed.old feed.new out.old out.new result }
 {
-    let disk = Folder { rt, folder };
-    match output_file(job) {
-        Some(name) => match make_file(rt, folder, name) {
-            Ok(writer) => {
-                let (end, file) = run_job_into(rt.alloc(), &disk, job, session, feed, writer);
-                (end, Some(file))
-            }
-            Err(end) => (end, None),
-        },
-        None => {
-            let limits = limits(bounds_of(job));
-            (
-                run_job(rt.alloc(), &disk, job, &limits, session, feed, out),
-                None,
-            )
-        }
-    }
+    let Some(name) = output_file(job) else {
+        let limits = limits(bounds_of(job));
+        return run_job(alloc, disk, job, &limits, session, feed, out);
+    };
+    let (writer, draft) = match begin(alloc, disk, name, files_of(job), force_of(job)) {
+        Ok(begun) => begun,
+        Err(end) => return end,
+    };
+    let end = run_job_into(alloc, disk, job, session, feed, writer);
+    settle(disk, name, draft.as_deref(), end)
 }
 
 /// Does a job: every file is read, then all are loaded, where no fact is sought that the job does
 /// not read, and only then is something done with them.
-fn work<R: Files + AllocGlobal, I: BufRead, O: Write>(
-    rt: &R,
-    folder: &str,
+fn work<D: Disk + Storage, I: BufRead, O: Write>(
+    alloc: Global,
+    disk: &mut D,
     job: &Job,
     feed: &mut Feed<I>,
     out: &mut Sink<O>,
-) -> (Finish, Option<Sink<TagsFile<R::File>>>)
+) -> Finish
     requires { IsReady job.now }
-    ensures { Works job.now feed.old feed.new out.old out.new result.0 result.1 }
+    ensures { Works (disk_over D.finds D.shows D.does disk.old disk.new) job.now
+        feed.old feed.new out.old out.new result }
 {
     let bounds = bounds_of(job);
-    let mut operands = Vec::new(rt.alloc());
-    match read_operands(rt, folder, bounds, files_of(job), &mut operands) {
+    let mut operands = Vec::new(alloc);
+    match read_operands(alloc, disk, bounds, files_of(job), &mut operands) {
         Ok(()) => {}
-        Err(end) => return (end, None),
+        Err(end) => return end,
     }
-    let session = match prepare(rt.alloc(), bounds, needed_of(job), operands) {
+    let session = match prepare(alloc, bounds, needed_of(job), operands) {
         Ok(session) => session,
-        Err(ended) => return (Finish::Ran(ended), None),
+        Err(ended) => return Finish::Ran(ended),
     };
-    do_job(rt, folder, job, session, feed, out)
+    do_job(alloc, disk, job, session, feed, out)
 }
 
 /// Does a job, to which the names of its list were added, if it has one.
-fn work_listed<R: Files + AllocGlobal, I: BufRead, O: Write>(
-    rt: &R,
-    folder: &str,
+fn work_listed<D: Disk + Storage, I: BufRead, O: Write>(
+    alloc: Global,
+    disk: &mut D,
     job: &mut Job,
     feed: &mut Feed<I>,
     out: &mut Sink<O>,
-) -> (Finish, Option<Sink<TagsFile<R::File>>>)
+) -> Finish
     requires { IsReady job.old }
-    ensures { WorksListed job.old job.new feed.old feed.new out.old out.new result.0 result.1 }
+    ensures { WorksListed (disk_over D.finds D.shows D.does disk.old disk.new) job.old job.new
+        feed.old feed.new out.old out.new result }
 {
-    match take_list(rt, folder, job, feed) {
-        Ok(()) => work(rt, folder, job, feed, out),
-        Err(end) => (end, None),
+    match take_list(alloc, disk, job, feed) {
+        Ok(()) => work(alloc, disk, job, feed, out),
+        Err(end) => end,
     }
 }
 
 /// Runs the program on these words, the first of which is its name, and answers its exit status.
-/// The text `folder` is put before the name of each file where it is opened.
-pub fn execute<R: Files + AllocGlobal, I: BufRead, O: Write, E: Write>(
-    rt: &R,
-    folder: &str,
+pub fn execute<D: Disk + Storage, I: BufRead, O: Write, E: Write>(
+    alloc: Global,
+    disk: &mut D,
     words: &[String],
     feed: &mut Feed<I>,
     out: &mut Sink<O>,
     errors: &mut Sink<E>,
 ) -> u8
-    ensures { EndsJob (map string_bytes words.now) result feed.old feed.new out.old out.new
+    ensures { EndsJob (disk_over D.finds D.shows D.does disk.old disk.new)
+        (map string_bytes words.now) result feed.old feed.new out.old out.new
         errors.old errors.new
-        ⊎ EndsUsage (map string_bytes words.now) result feed.old feed.new out.old out.new
+        ⊎ EndsUsage (disk_over D.finds D.shows D.does disk.old disk.new)
+        (map string_bytes words.now) result feed.old feed.new out.old out.new
         errors.old errors.new }
 {
-    match job_of(rt.alloc(), words) {
+    match job_of(alloc, words) {
         Ok(mut job) => {
-            let (end, _file) = work_listed(rt, folder, &mut job, feed, out);
+            let end = work_listed(alloc, disk, &mut job, feed, out);
             conclude(errors, &job, end)
         }
         Err(usage) => refuse(errors, &usage),
     }
 }
 
-/// The same on the words of the process, with no folder.
-pub fn execute_process<R: Files + AllocGlobal, I: BufRead, O: Write, E: Write>(
-    rt: &R,
+/// The same on the words of the process.
+pub fn execute_process<D: Disk + Storage, I: BufRead, O: Write, E: Write>(
+    alloc: Global,
+    disk: &mut D,
     words: io::Result<Args>,
     feed: &mut Feed<I>,
     out: &mut Sink<O>,
     errors: &mut Sink<E>,
 ) -> u8
-    ensures { EndsProcess words result feed.old feed.new out.old out.new errors.old errors.new }
+    ensures { EndsProcess (disk_over D.finds D.shows D.does disk.old disk.new) words result
+        feed.old feed.new out.old out.new errors.old errors.new }
 {
-    match taken_words(rt.alloc(), words) {
-        Ok(words) => execute(rt, "", words.as_slice(), feed, out, errors),
+    match taken_words(alloc, words) {
+        Ok(words) => execute(alloc, disk, words.as_slice(), feed, out, errors),
         Err(missing) => refuse(errors, &missing),
     }
+}
+
+/// The same behind buffers.
+pub fn run<D: Disk + Storage, I: Read + Drop, O: Write + Drop, E: Write>(
+    alloc: Global,
+    disk: &mut D,
+    words: io::Result<Args>,
+    input: I,
+    output: O,
+    errors: &mut Sink<E>,
+) -> u8
+    ensures { EndsRun (disk_over D.finds D.shows D.does disk.old disk.new) words result
+        errors.old errors.new }
+{
+    let Ok(reader) = BufReader::new(alloc, input) else {
+        return refuse(errors, &Usage::Memory);
+    };
+    let Ok(writer) = BufWriter::new(alloc, output) else {
+        return refuse(errors, &Usage::Memory);
+    };
+    let mut feed = Feed::new(reader);
+    let mut out = Sink::new(writer);
+    execute_process(alloc, disk, words, &mut feed, &mut out, errors)
 }
 
 fn all_words(alloc: Global, words: Args) -> Result<Vec<String>, AllocError>

@@ -1,10 +1,10 @@
 //! The command line, as clap is to read it.
 ghost use Rattle.std.specs.Prelude.{◌≡◌, IfOk};
 ghost use Rattle.clap.specs.Words.{app_of, with_rule};
-ghost use Rattle.cb_words.specs.Jobs.{files_rule, find_app, line_app, list_rule, listing_rule};
-ghost use Rattle.cb_words.specs.Jobs.{lsp_app, most_rule, num_rule, pattern_rule, prototypes_rule};
+ghost use Rattle.cb_words.specs.Jobs.{files_rule, find_app, force_rule, line_app, list_rule};
+ghost use Rattle.cb_words.specs.Jobs.{listing_rule, lsp_app, most_rule, num_rule, pattern_rule, prototypes_rule};
 ghost use Rattle.cb_words.specs.Jobs.{root_rule, tagsfile_rule, wide_rule, with_bounds, with_files};
-ghost use Rattle.cb_words.specs.Jobs.{with_profile};
+ghost use Rattle.cb_words.specs.Jobs.{with_output, with_profile};
 ghost use Rattle.cb_words.specs.Commands.{TakesFormats, browse_app_of, tags_app_of, with_format};
 
 use crate::job::VERSION;
@@ -69,7 +69,7 @@ fn tags_command<'a>(alloc: Global) -> Result<Command<'a>, AllocError>
         .about("Writes the tags of C sources to a tags file")
         .after_help("Example: cbrowse tags a.c");
     let command = with_listing(alloc, command)?;
-    let command = with_tagsfile(alloc, command)?;
+    let command = with_output(alloc, command)?;
     let command = with_format(alloc, command)?;
     let command = with_profile(alloc, command)?;
     let command = with_bounds(alloc, command)?;
@@ -136,6 +136,14 @@ fn with_listing<'a>(alloc: Global, command: Command<'a>) -> Result<Command<'a>, 
     command.arg(listing)
 }
 
+/// Adds `-f` and `--force`.
+fn with_output<'a>(alloc: Global, command: Command<'a>) -> Result<Command<'a>, AllocError>
+    ensures { IfOk result (λ more. app_of more ≡ with_output (app_of command.entry)) }
+{
+    let command = with_tagsfile(alloc, command)?;
+    with_force(alloc, command)
+}
+
 /// Adds `-f`.
 fn with_tagsfile<'a>(alloc: Global, command: Command<'a>) -> Result<Command<'a>, AllocError>
     ensures { IfOk result (λ more. app_of more ≡ with_rule (app_of command.entry) tagsfile_rule) }
@@ -146,6 +154,17 @@ fn with_tagsfile<'a>(alloc: Global, command: Command<'a>) -> Result<Command<'a>,
         .default_value("tags")
         .help("Tags file to write, - for standard output");
     command.arg(tagsfile)
+}
+
+/// Adds `--force`.
+fn with_force<'a>(alloc: Global, command: Command<'a>) -> Result<Command<'a>, AllocError>
+    ensures { IfOk result (λ more. app_of more ≡ with_rule (app_of command.entry) force_rule) }
+{
+    let force = Arg::new(alloc, "force")
+        .long("force")
+        .action(ArgAction::SetTrue)
+        .help("Replace a file that is not a tags file");
+    command.arg(force)
 }
 
 /// Adds `--format`.

@@ -127,6 +127,7 @@ fn tags_job(alloc: Global, found: &ArgMatches<'_>) -> Result<Option<Job>, AllocE
         rules,
         listing: is_set(found, "listing"),
         tagsfile: String::from_str(alloc, value_or(found, "tagsfile", "tags"))?,
+        force: is_set(found, "force"),
         format,
         list: text_of(alloc, found, "files_from")?,
         files: files_of(alloc, found)?,

@@ -4,7 +4,7 @@ ghost use Rattle.std.specs.List.{slice_index_or};
 ghost use Rattle.std.specs.Option.{option_map};
 ghost use Rattle.cb_tags.specs.Writing.{Puts};
 ghost use Rattle.cbrowse.specs.Messages.{Says, error_line, fault_line, file_line, hex_digit};
-ghost use Rattle.cbrowse.specs.Messages.{is_plain, told_byte, told_name, bounds_of, files_of};
+ghost use Rattle.cbrowse.specs.Messages.{is_plain, told_byte, told_name, bounds_of, files_of, force_of};
 ghost use Rattle.cbrowse.specs.Messages.{list_name, list_of, most_line_bytes, tagsfile_of};
 ghost use Rattle.cbrowse.specs.Messages.{run_said, said_of, server_said, server_status, run_status};
 ghost use Rattle.cbrowse.specs.Messages.{status_of, usage_status, usage_said};
@@ -94,6 +94,18 @@ fn tagsfile_of(job: &Job) -> &[u8]
         Job::Find { .. } => b"",
         Job::Tags { tagsfile, .. } => tagsfile.as_bytes(),
         Job::Lsp { .. } => b"",
+    }
+}
+
+/// Whether a job's tags file takes the place of any file.
+pub(crate) fn force_of(job: &Job) -> bool
+    ensures { result ≡ force_of job.now }
+{
+    match job {
+        Job::Line { .. } => false,
+        Job::Find { .. } => false,
+        Job::Tags { force, .. } => *force,
+        Job::Lsp { .. } => false,
     }
 }
 

@@ -3,64 +3,58 @@ ghost use Rattle.std.specs.Prelude.{◌≡◌, ◌≤◌, ◌<◌, ◌++◌, ◌
 ghost use Rattle.std.specs.Prelude.{map, string_bytes, vec_capacity};
 ghost use Rattle.cb_words.specs.Jobs.{is_standard_input, most_file_bytes};
 ghost use Rattle.cbrowse.specs.Lists.{HasMore, HasNoList, IsListText, IsNoList, LacksList};
-ghost use Rattle.cbrowse.specs.Lists.{TakesList, names_in};
+ghost use Rattle.cbrowse.specs.Lists.{ReadsAll, TakesList, names_in};
 ghost use Rattle.cbrowse.specs.Messages.{list_of};
 
-use crate::execute::files::{OUT_OF_MEMORY, path_of, read_file};
+use crate::execute::files::OUT_OF_MEMORY;
 use crate::execute::finish::{Finish, list_of};
+use crate::execute::storage::Storage;
 use bstr::ByteSlice;
 use cb_desk::MOST_BYTES;
 use cb_tags::Feed;
 use cb_words::Job;
 use std::alloc::Global;
 use std::io::{self, ErrorKind};
-use std::rt::Files;
 
 /// Adds the names in the list of a job, if it has one, to its files, behind them.
-pub(crate) fn take_list<R: Files + AllocGlobal, I: io::BufRead>(
-    rt: &R,
-    folder: &str,
+pub(crate) fn take_list<D: Storage, I: io::BufRead>(
+    alloc: Global,
+    disk: &D,
     job: &mut Job,
     feed: &mut Feed<I>,
 ) -> Result<(), Finish>
     ensures taken { MatchResult result
-        (λ _. TakesList (list_of job.old) job.old feed.old feed.new job.new)
+        (λ _. TakesList (D.shows disk.now) (list_of job.old) job.old feed.old feed.new job.new)
         (LacksList (list_of job.old) feed.old feed.new) }
     ensures list { list_of job.new ≡ list_of job.old }
 {
     let text = match list_of(job) {
-        Some(list) => list_text(rt, folder, list, feed)?,
+        Some(list) => list_text(alloc, disk, list, feed)?,
         None => return Ok(()),
     };
-    add_to(rt.alloc(), text.as_slice(), job)
+    add_to(alloc, text.as_slice(), job)
 }
 
 /// The text of a list. The list `-` is standard input.
-fn list_text<R: Files + AllocGlobal, I: io::BufRead>(
-    rt: &R,
-    folder: &str,
+fn list_text<D: Storage, I: io::BufRead>(
+    alloc: Global,
+    disk: &D,
     list: &str,
     feed: &mut Feed<I>,
 ) -> Result<Vec<u8>, Finish>
     ensures { MatchResult result
-        (λ text. IsListText (is_standard_input list.now) feed.old feed.new text.items)
+        (λ text. IsListText (D.shows disk.now) list.now (is_standard_input list.now)
+        feed.old feed.new text.items)
         (HasNoList (is_standard_input list.now) feed.old feed.new) }
 {
     if list == "-" {
-        read_input(rt.alloc(), feed)
+        read_input(alloc, feed)
     } else {
-        whole_list(read_list(rt, folder, list))
+        whole_list(disk.list(alloc, list, MOST_BYTES as u64 + 1))
     }
 }
 
-/// The first bytes of a list: one more than it may have, so that a larger one is seen to be too
-/// large.
-fn read_list<R: Files + AllocGlobal>(rt: &R, folder: &str, list: &str) -> io::Result<Vec<u8>> {
-    let path = path_of(rt.alloc(), folder, list)?;
-    read_file(rt, MOST_BYTES as u64 + 1, path.as_str())
-}
-
-/// The list that was read, unless it is too large.
+/// The list that was read, unless it is too large: then one byte more than it may have was read.
 fn whole_list(read: io::Result<Vec<u8>>) -> Result<Vec<u8>, Finish>
     ensures { MatchResult result
         (λ text. (read ≡ Ok text) × (length text.items ≤ most_file_bytes)) IsNoList }
@@ -76,7 +70,7 @@ fn whole_list(read: io::Result<Vec<u8>>) -> Result<Vec<u8>, Finish>
 /// All that is left of the input, unless it is too large.
 fn read_input<I: io::BufRead>(alloc: Global, feed: &mut Feed<I>) -> Result<Vec<u8>, Finish>
     ensures { MatchResult result
-        (λ text. IsListText true feed.old feed.new text.items)
+        (λ text. (length text.items ≤ most_file_bytes) × ReadsAll feed.old feed.new text.items)
         (HasNoList true feed.old feed.new) }
 {
     let mut text = Vec::new(alloc);

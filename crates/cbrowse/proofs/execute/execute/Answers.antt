@@ -7,8 +7,7 @@ returns-in-Ok g c =
     inl (
       c.in-Ok.job,
       c.work_listed-end.new.job,
-      c.work_listed-end.result.0,
-      c.work_listed-end.result.1,
+      c.work_listed-end.result,
       c.in-Ok.ensures,
       c.work_listed-end.ensures,
       c.conclude.ensures.status,
@@ -20,9 +19,7 @@ returns-in-Err g c =
     inr (
       c.in-Err.usage,
       c.in-Err.ensures,
-      (refl, refl),
-      c.refuse.ensures.status,
-      c.refuse.ensures.said,
+      ((refl, refl), refl, c.refuse.ensures.status, c.refuse.ensures.said),
     )
 
 pub work_listed-end-requires : goal.work_listed-end-requires

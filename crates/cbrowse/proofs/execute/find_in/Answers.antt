@@ -3,7 +3,7 @@ use Rattle.std.proofs.Common.{subst}
 use Rattle.cb_desk.specs.Answer.{answer}
 use Rattle.cb_session.specs.Output.{row_line}
 use Rattle.cb_session.specs.States.{State}
-use Rattle.cbrowse.specs.Program.{WritesText}
+use Rattle.cbrowse.specs.Writes.{WritesText}
 use Rattle.cbrowse.proofs.execute.find_in.Goals as goal
 
 pub returns : goal.returns

@@ -4,7 +4,8 @@ use Rattle.std.specs.List.{flat_map}
 use Rattle.cb_desk.specs.Answer.{answer}
 use Rattle.cb_session.specs.Output.{row_line}
 use Rattle.cb_words.specs.declared.job.Job.TheVariants.{Find, Lsp}
-use Rattle.cbrowse.specs.Program.{DoesJob, RunsServer, WritesText}
+use Rattle.cbrowse.specs.Program.{DoesJob, RunsServer}
+use Rattle.cbrowse.specs.Writes.{WritesText}
 use Rattle.cbrowse.specs.declared.execute.finish.Finish.TheVariants.{Ran, Served}
 use Rattle.cbrowse.proofs.execute.run_job.Goals as goal
 

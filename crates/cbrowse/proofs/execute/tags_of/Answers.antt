@@ -1,6 +1,7 @@
 use Rattle.std.proofs.Common.{subst}
 use Rattle.cb_session.specs.States.{State}
-use Rattle.cbrowse.specs.Program.{WritesText, tags_output}
+use Rattle.cbrowse.specs.Program.{tags_output}
+use Rattle.cbrowse.specs.Writes.{WritesText}
 use Rattle.cbrowse.proofs.execute.tags_of.Goals as goal
 
 pub returns : goal.returns

@@ -1,5 +1,5 @@
 use Rattle.cbrowse.proofs.Process.{read_all}
-use Rattle.cbrowse.proofs.execute.files.read_whole.Goals as goal
+use Rattle.cbrowse.proofs.execute.process.read_whole.Goals as goal
 
 pub returns : goal.returns
 returns g c =
