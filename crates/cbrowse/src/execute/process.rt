@@ -65,7 +65,7 @@ impl<R: Files + AllocGlobal> Disk for Process<'_, R> {
         match read_regular(self.rt, most, path) {
             Ok(bytes) => Found::Holds(bytes),
             Err(error) => match error.kind() {
-                ErrorKind::NotFound => Found::Gone,
+                ErrorKind::NotFound | ErrorKind::NotADirectory => Found::Gone,
                 ErrorKind::OutOfMemory => Found::NoRoom,
                 _ => Found::Unreadable,
             },
