@@ -1,5 +1,5 @@
 -- The one form of a path.
-use Rattle.std.proofs.Common.{◌≡◌, ◌∙◌, ◌==◌, ◌&&◌, ◌||◌, ◌++◌, ℕ, Bool, true, false, not, cond, List, []}
+use Rattle.std.proofs.Common.{◌≡◌, ◌∙◌, ◌==◌, ◌&&◌, ◌++◌, ℕ, Bool, true, false, cond, List, []}
 use Rattle.std.proofs.Common.{◌∷◌, refl, sym, ap, subst, ⊎_elim, append-nil, arith, suc}
 use Rattle.std.proofs.Common.{drop, length, take, ◌+◌}
 use Rattle.std.specs.Prelude.{filter}

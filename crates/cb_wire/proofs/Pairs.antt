@@ -1,6 +1,6 @@
 -- A body whose halves of pairs are read one after another.
 use Rattle.std.proofs.Common.{◌≡◌, ◌∙◌, ℕ, zero, suc, ◌-◌, ◌<◌, ◌≤◌, List, [], ◌∷◌, ◌++◌, length}
-use Rattle.std.proofs.Common.{drop, refl, sym, ap, subst, arith}
+use Rattle.std.proofs.Common.{drop, refl, sym, ap, arith}
 use Rattle.cb_wire.specs.Surrogates.{front_size, front_text, read_after, with_whole_pairs}
 
 after-dropped : (n : ℕ) (text : List ℕ) → read_after n text ≡ read_after 0 (drop n text)

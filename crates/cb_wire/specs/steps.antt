@@ -1,3 +1,4 @@
 pub mod ReadBodies
 pub mod ReadHeads
 pub mod Segments
+pub mod Runs

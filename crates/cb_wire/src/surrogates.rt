@@ -20,8 +20,7 @@ fn is_first_half(digit: u8) -> bool
     ensures { result ≡ is_first_half digit }
 {
     digit == b'8'
-        || (digit == b'9'
-            || (digit == b'A' || (digit == b'B' || (digit == b'a' || digit == b'b'))))
+        || (digit == b'9' || (digit == b'A' || (digit == b'B' || (digit == b'a' || digit == b'b'))))
 }
 
 /// The same of a second half.

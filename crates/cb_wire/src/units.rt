@@ -1,6 +1,8 @@
 //! Columns of a line.
 ghost use Rattle.std.specs.Prelude.{◌≡◌, ◌≤◌, ◌<◌, ◌==◌, cond, drop, length, take, IfNone};
-ghost use Rattle.std.specs.Prelude.{IfSome};
+ghost use Rattle.std.specs.Prelude.{IfSome, IsTrue};
+ghost use Rattle.std.specs.Str.{IsAscii};
+ghost use Rattle.cb_wire.specs.steps.Runs.{IsRun};
 ghost use Rattle.cb_wire.specs.Units.{column, first, place_in_line};
 
 use bstr::decode_utf8;
@@ -58,6 +60,33 @@ fn first(encoding: Encoding, line: &[u8]) -> Option<Character>
     Some(front(encoding, line))
 }
 
+/// So many bytes of ASCII at the front of a line are passed over at once.
+const BLOCK: usize = 64;
+
+/// Whether a line begins with a block of ASCII, for which there is room.
+fn begins_with_block(line: &[u8], room: usize) -> bool
+    ensures { IsTrue result → (64 ≤ room) × (64 ≤ length line.now) × IsAscii (take 64 line.now) }
+{
+    BLOCK <= room && (BLOCK <= line.len() && line.split_at(BLOCK).0.is_ascii())
+}
+
+/// What a line begins with, unless it is empty: a block of ASCII, for which there is room, or else
+/// the first character.
+fn first_run(encoding: Encoding, line: &[u8], room: usize) -> Option<Character>
+    ensures end { IfNone result (length line.now ≡ 0) }
+    ensures run { IfSome result (λ c. IsRun encoding line.now room c) }
+    ensures within { IfSome result (λ c. (1 ≤ c.units) × (c.units ≤ c.bytes)
+        × (c.bytes ≤ length line.now)) }
+{
+    if begins_with_block(line, room) {
+        return Some(Character {
+            bytes: BLOCK,
+            units: BLOCK,
+        });
+    }
+    first(encoding, line)
+}
+
 /// The bytes before a place.
 pub(crate) fn before(text: &[u8], place: usize) -> &[u8]
     ensures value { result.now ≡ take place text.now }
@@ -95,7 +124,7 @@ pub fn column_of_place(encoding: Encoding, line: &[u8], place: usize) -> usize
     let mut rest = line;
     let mut left = place;
     let mut units = 0;
-    'characters: while let Some(next) = first(encoding, rest) {
+    'characters: while let Some(next) = first_run(encoding, rest, left) {
         if next.bytes > left {
             return units;
         }
@@ -118,7 +147,7 @@ pub fn place_of_column(encoding: Encoding, line: &[u8], column: usize) -> usize
     let mut rest = line;
     let mut left = column;
     let mut bytes = 0;
-    'characters: while let Some(next) = first(encoding, rest) {
+    'characters: while let Some(next) = first_run(encoding, rest, left) {
         if next.units > left {
             return bytes;
         }

@@ -1,15 +1,14 @@
-use Rattle.std.proofs.Common.{arith, subst}
+use Rattle.std.proofs.Common.{◌-◌, ap, arith, subst}
 use Rattle.std.specs.Bool.{MatchBool}
 use Rattle.std.specs.Str.{IsAscii, IsNotAscii}
+use Rattle.cb_wire.specs.Units.{column}
 use Rattle.cb_wire.proofs.Ascii.{ascii-column}
-use Rattle.cb_wire.proofs.Fitting.{measured-end, measured-stop, measured-step}
+use Rattle.cb_wire.proofs.Fitting.{measured-end}
 use Rattle.cb_wire.proofs.units.column_of_place.Goals as goal
 
 pub returns-then-next-left-clause-value : goal.returns-then-next-left-clause-value
 returns-then-next-left-clause-value c =
-    let last =
-    measured-stop (λ c. c.bytes) (λ c. c.units) c.args.encoding c.characters.rest.now c.characters.left
-    c.in-Some.next c.in-Some.ensures.value c.in-Some.ensures.some c.if-next-left.true in
+    let last = c.in-Some.ensures.run.column_in c.if-next-left.true in
     omega (arith, last, c.characters.invariant.value)
 
 pub returns-clause-value : goal.returns-clause-value
@@ -21,13 +20,12 @@ returns-clause-value c =
 
 pub characters-preserved : goal.characters-preserved
 characters-preserved c =
-    let more =
-    measured-step (λ c. c.bytes) (λ c. c.units) c.args.encoding c.characters.rest.now c.characters.left
-    c.in-Some.next c.in-Some.ensures.value c.in-Some.ensures.some c.split_at.result.1.now
-    c.split_at.ensures.back c.if-next-left.false in
+    let more = c.in-Some.ensures.run.column_after (omega (arith, c.if-next-left.false)) in
+    let rest = ap (λ l. column c.args.encoding l (c.characters.left - c.in-Some.next.bytes))
+    c.split_at.ensures.back in
     record {
-      value = omega (arith, more, c.characters.invariant.value);
-      within = omega (arith, c.split_at.ensures.back_len, c.in-Some.ensures.units);
+      value = omega (arith, more, rest, c.characters.invariant.value);
+      within = omega (arith, c.split_at.ensures.back_len, c.in-Some.ensures.within);
     }
 
 pub returns-then-is_ascii-clause-value : goal.returns-then-is_ascii-clause-value

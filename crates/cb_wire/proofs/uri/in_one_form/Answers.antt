@@ -1,5 +1,5 @@
-use Rattle.std.proofs.Common.{◌∙◌, ap, subst, sym}
-use Rattle.cb_wire.specs.Uris.{has_one_form, one_form}
+use Rattle.std.proofs.Common.{◌∙◌, ap, sym}
+use Rattle.cb_wire.specs.Uris.{one_form}
 use Rattle.cb_wire.proofs.Forms.{form-seen}
 use Rattle.cb_wire.proofs.uri.in_one_form.Goals as goal
 
