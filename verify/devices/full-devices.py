@@ -5,8 +5,7 @@
     verify/devices/full-devices.py --cbrowse PATH
 
 As root it mounts a small file system of its own. Each of these is one line on standard error and
-status 1. What was taken is a prefix of what the program writes elsewhere, and an old tags file
-stays:
+status 1. What was taken is a prefix of what the program writes elsewhere. An old tags file stays:
 
     /dev/full    as standard output, and as the tags file
     closed       standard output is closed, or the reader of the pipe is, with SIGPIPE as a shell
