@@ -15,8 +15,9 @@ file the new name has to be used where the old one was, and nowhere else. Texts 
 CRs, byte order marks, letters outside ASCII, halves of surrogate pairs and, in files and in
 messages, bytes that are not UTF-8. Paths have empty segments and dots, or lead outside the root.
 Some messages have wrong parameters, ids or members, and between changes of documents some are cut,
-are not JSON or are too large; some heads are odd, and some inputs end within a message. The input comes in random pieces. Standard output, standard error and the status are
-compared with `server_model.py`.
+are not JSON or are too large; some heads are odd, and some inputs end within a message. The input
+comes in random pieces. Standard output, standard error and the status are compared with
+`server_model.py`.
 
 At the first difference the seed, the input and both outputs are shown and the exit status is 1.
 Else lines tell how often each message was sent and each reply came.
@@ -92,7 +93,8 @@ WRONG = [None, True, 7, -1, 1.5, "", "7", [], {}, 2**64, "file:///w/a.c"]
 NO_JSON = [b"", b"{", b"nul", b"[1,]", b"{} {}", b"{'a':1}", b'{"a":"\\ud800"', b"\xff", b"01",
            b"[" * 129 + b"]" * 129, b"[" * 200, b'{"a" 1}', b'"\\x"', b'"\t"', b"NaN", b"1e", b"-"]
 NO_REQUESTS = [b"1", b"null", b'"a"', b"[]", b"{}", b'{"id":1}', b'{"method":7}', b'{"result":1}',
-               b"[" * 128 + b"]" * 128, b'{"id":1,"method":null,"result":2}', b'"\\ud800"', b"-0.5E+7", b" [ ] "]
+               b"[" * 128 + b"]" * 128, b'{"id":1,"method":null,"result":2}', b'"\\ud800"',
+               b"-0.5E+7", b" [ ] "]
 REPLIES = [b'{"id":1,"result":null}', b'{"id":null,"error":{}}', b'{"error":1,"id":{}}']
 BAD_HEADS = [
     b"Content-Length: x\r\n\r\n", b"Content-Length: 2\n\n{}", b"\r\n", b"X: 1\r\n\r\n",

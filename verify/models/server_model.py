@@ -881,8 +881,8 @@ class Server:
         return b'{"changes":{%s}}' % b",".join(edits)
 
     def may_edit(self, file):
-        """Whether an editor makes the edits of a file where they belong: the file is below the root,
-        and it is open and not lost, or has on disk a text that all editors count alike."""
+        """Whether an editor makes the edits of a file where they belong: the file is below the
+        root, and it is open and not lost, or has on disk a text that all editors count alike."""
         if file.startswith(b"/"):
             return False
         if file in self.documents:
