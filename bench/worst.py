@@ -1,5 +1,5 @@
 #!/usr/bin/env python3
-"""What the texts cost that are hardest for a scanner: time and memory, beside ordinary code.
+"""What the hardest texts and messages cost: time and memory, beside ordinary ones.
 
     make && bench/worst.py
     bench/worst.py --cbrowse PATH      or: CBROWSE=PATH bench/worst.py
@@ -13,6 +13,14 @@ puts all facts in order. Shown are the processor time (user and system) of the w
 core, the least of several, and the most memory that it had resident; "times" is the time as a
 multiple of that of ordinary code in as many bytes and files.
 
+Braces that are nested, open and closed, are shown by the wide profile too.
+
+The language server has one document of about a million bytes. The rows after `server:` show the
+least processor time of several equal messages, each hard one beside an ordinary one in as many
+bytes: a query that begins as each name goes on, over names of 30,000 bytes; the symbols of one line
+with a letter outside ASCII, so that columns have to be counted; 2,000 parts of a change at the end
+of the document, beside a whole text; and nested braces, opened and folded.
+
 No tags are asked for: each tag shows its whole line, so that n definitions on one line have n times
 its length of them.
 """
@@ -24,9 +32,11 @@ import tempfile
 
 from measure import MOST_BYTES, MOST_FILES, keep_to_one_core, options, processor_time, words_given
 from scan import code, lines
+from server import Server, frame
 from session import Session
 
 RUNS = 3
+DOCUMENT, TINY = "document.c", "tiny.c"  # of the language server
 QUESTIONS = [b"r\n"] + [
     b"%s%s\n" % (field, name)
     for name in (b"a", b"f", b"none")
@@ -87,13 +97,13 @@ def again(shape, size=MOST_BYTES):
     return (shape * (size // len(shape) + 1))[:size]
 
 
-def asked(cbrowse, folder, texts, questions=QUESTIONS):
+def asked(cbrowse, folder, texts, questions=QUESTIONS, profile=()):
     """The least seconds of a session over these texts, and its memory in megabytes."""
     with tempfile.TemporaryDirectory(dir=folder) as place:
         names = [f"{number}.c" for number in range(len(texts))]
         for name, text in zip(names, texts):
             pathlib.Path(place, name).write_bytes(text)
-        words = [cbrowse, "line"] + names
+        words = [cbrowse, "line", *profile, *names]
         asking = b"".join(questions)
         seconds = min(processor_time(words, pathlib.Path(place), asking) for _ in range(RUNS))
         session = Session(words, place)
@@ -102,6 +112,88 @@ def asked(cbrowse, folder, texts, questions=QUESTIONS):
         memory = session.most_memory() / 1e6
         session.end()
         return seconds, memory
+
+
+# ---- the language server
+
+
+def served(cbrowse, folder, text, messages, profile=()):
+    """The least processor seconds of a server for messages about a document with this text, of
+    which the last one is a request; and its memory in megabytes."""
+    with tempfile.TemporaryDirectory(dir=folder) as place:
+        server = Server([cbrowse, "lsp", *profile], pathlib.Path(place))
+        server.open(TINY, "int tiny(void) {\n}\n")
+        server.open(DOCUMENT, text.decode())
+        server.ask(server.symbols(TINY))
+        asking, times = b"".join(messages(server, text)), []
+        for _ in range(RUNS):
+            before = server.processor()
+            server.ask(asking)
+            times.append(server.processor() - before)
+        memory = server.resident() / 1e6
+        server.end()
+        return min(times), memory
+
+
+def query(words):
+    """A query for symbols of all files."""
+    return lambda server, text: [frame("workspace/symbol", {"query": words}, 1)]
+
+
+def whole(server, text):
+    """A document gets a whole text."""
+    return [server.change(DOCUMENT, text.decode()), server.symbols(TINY)]
+
+
+def parts(number):
+    """So many blanks are put to the end of a document, by one message."""
+
+    def messages(server, text):
+        end = {"line": text.count(b"\n"), "character": 0}
+        change = {"range": {"start": end, "end": end}, "text": " "}
+        document = {"uri": server.uri(DOCUMENT), "version": 2}
+        params = {"textDocument": document, "contentChanges": [change] * number}
+        return [frame("textDocument/didChange", params), server.symbols(TINY)]
+
+    return messages
+
+
+def opened(server, text):
+    """A document is opened, and its functions are folded."""
+    document = {"uri": server.uri(DOCUMENT), "languageId": "c", "version": 1, "text": text.decode()}
+    fold = frame("textDocument/foldingRange", server.document(DOCUMENT), 1)
+    return [frame("textDocument/didOpen", {"textDocument": document}), fold]
+
+
+def put_served(cbrowse, folder):
+    """A row of each hard message, after the ordinary one that it is beside."""
+
+    def row(label, text, messages, ordinary=None, profile=()):
+        found = served(cbrowse, folder, text, messages, profile)
+        put(label, found, ordinary)
+        return found
+
+    names = again(b"int " + b"a" * 30_000 + b"(void) {\n}\n", 950_000)
+    usual = row("server: symbols that hold a text", lines(code(), len(names)), query("ab_b"))
+    row("aaa..b in names of aaa..", names, query("a" * 254 + "b"), usual)
+    row("the same, of 3,000 bytes", names, query("a" * 2_999 + "b"), usual)
+    line = "/* é */ ".encode() + numbered(b"f#(){}", 720_000) + b"\n"
+    usual = row("server: 1,000 symbols", numbered(b"int f#(void) {\n}\n", len(line)), query("f"))
+    row("on one line, after an é", line, query("f"), usual)
+    row("on one line, before an é", line[9:-1] + line[:9] + b"\n", query("f"), usual)
+    text = lines(code(), 950_000)
+    usual = row("server: a whole text of 950,000", text, whole)
+    row("one part at its end", text, parts(1), usual)
+    row("2,000 parts at its end", text, parts(2_000), usual)
+    for profile in (), ("--wide",):
+        named = " ".join(("server: opened, folded", *profile))
+        usual = row(named, lines(code(), 990_000), opened, profile=profile)
+        row("nested braces", again(b"{", 990_000), opened, usual, profile)
+        closed = b"f(){" + b"{" * 490_000 + b"}" * 490_000 + b"}\n"
+        row("nested braces that are closed", closed, opened, usual, profile)
+
+
+# ---- rows
 
 
 def put(label, found, ordinary=None):
@@ -117,8 +209,8 @@ def main():
     print(f"{'':<34}{'time':>13}{'memory':>13}{'times':>8}")
     with tempfile.TemporaryDirectory() as folder:
 
-        def measured(texts, questions=QUESTIONS):
-            return asked(given.cbrowse, folder, texts, questions)
+        def measured(texts, questions=QUESTIONS, profile=()):
+            return asked(given.cbrowse, folder, texts, questions, profile)
 
         ordinary = measured([lines(code(), MOST_BYTES)])
         put("ordinary code", ordinary)
@@ -126,6 +218,11 @@ def main():
             put(shape.decode().replace("\n", " LF"), measured([again(shape)]), ordinary)
         for label, line in LINES.items():
             put(label, measured([line], FIRST_QUESTIONS), ordinary)
+        wide = measured([lines(code(), MOST_BYTES)], profile=("--wide",))
+        put("ordinary code --wide", wide)
+        put("{ --wide", measured([again(b"{")], profile=("--wide",)), wide)
+        closed = b"f(){" + b"{" * 490_000 + b"}" * 490_000 + b"}\n"
+        put("{..} --wide", measured([closed], profile=("--wide",)), wide)
         line = b"int a;\nvoid f(void) {" + again(b" a;", 300_000) + b"}\n"
         put(
             "100,000 uses of a name on a line",
@@ -140,6 +237,7 @@ def main():
             measured([one] * MOST_FILES),
             measured([many[number % len(many)] for number in range(MOST_FILES)]),
         )
+        put_served(given.cbrowse, folder)
 
 
 if __name__ == "__main__":

@@ -12,10 +12,12 @@ some sessions, read again from a folder that holds other texts, and requests ask
 and any other place, in both encodings, for lists and trees. Names are renamed, often where each
 file was opened or is on disk as the server has it, and then the client makes the edits: in each
 file the new name has to be used where the old one was, and nowhere else. Texts have CR LF, lone
-CRs, letters outside ASCII and, in files and in messages, bytes that are no UTF-8. Some messages
-have wrong parameters, ids or members, are no JSON or have odd heads; some inputs end within a
-message. The input comes in random pieces. Standard output, standard error and the status are
-compared with `server_model.py`.
+CRs, byte order marks, letters outside ASCII, halves of surrogate pairs and, in files and in
+messages, bytes that are not UTF-8. Paths have empty segments and dots, or lead outside the root.
+Some messages have wrong parameters, ids or members, and between changes of documents some are cut,
+are not JSON or are too large; some heads are odd, and some inputs end within a message. The input
+comes in random pieces. Standard output, standard error and the status are compared with
+`server_model.py`.
 
 At the first difference the seed, the input and both outputs are shown and the exit status is 1.
 Else lines tell how often each message was sent and each reply came.
@@ -36,7 +38,8 @@ import tempfile
 from typing import NamedTuple, Optional
 
 from draw import Draw
-from server_model import Ended, Outcome, Server, frame, headers, place_of, position_of, serve
+from server_model import MOST_BODY, Ended, Outcome, Server, frame, headers, place_of
+from server_model import position_of, serve
 from session_model import Bounds
 
 sys.path.insert(0, str(pathlib.Path(__file__).resolve().parents[1]))
@@ -49,7 +52,9 @@ NAMES = [
     "a.c", "b.c", "f.h", "g.h", "sys/f.h", "sys/ab.h", "x/sys/f.h", "a/g.h", "src/a.c", "src/f.h",
     "z/a/main.h", "1%.c", "p#q.h", "~-_.c",
 ]
-OUTSIDE = ["/usr/f.h", "/wx/a.c", "/w/../w/a.c"]
+OUTSIDE = ["/usr/f.h", "/wx/a.c", "/w/../w/a.c", "/v/./b.c"]
+STEPPING = "x/../y.c"  # a name that only a file of the command line may have
+DETOURS = ["//", "//", "/./", "/./", "///.//", "/../", "/x/../", "/.../", "/.x/"]
 NOT_NAMES = ["a b.c", "\u00e9.h", "a.cc", "a.txt", "", ".", "x" * 254 + ".c", "\n.c", "a.c?x"]
 ROOTS = ["file:///w", "file:///w/", "file://localhost/w", "FILE:///w//", "file:///a%20b%c3%a9",
          "file:///a b\u00e9", "file:///", "file://localhost//", "http://w", "file:", "", 7, None]
@@ -62,14 +67,19 @@ DEFINING = [
     "#define {} {}(1)\n",
     '#include "{}.h"\n', "#include <sys/{}.h>\n", '#include "../a/{}.h"\n', "\t{}({}); // {}\n",
     "typedef struct {} {{ int a; }} {};\r\n", "enum {} {{ A }}; /* \U0001f600 */ {} x;\n",
+    "int {}(void) {{ /*" + "\u00e9\U0001f600x" * 60 + "*/ return {}(1); }}\n",
+    " \tint " + "x" * 256 + "(void) {{ /*\U0001f600" + "\u0301" * 80 + "*/ return {}(2); }}\n",
 ]
+MARK = b"\xef\xbb\xbf"
+HALVES = ["\ud83d", "\ude00", "\udbff\udfff", "\ude00\ud83d", "\\ud83d\ud83d", "\\\\\ud800f"]
 WORDS = ["f", "f", "g", "g", "ab", "main", "F", "b_1"]
 BAD = [b"\xff", b"\xc3", b"\xf0\x9f\x98", b"\xed\xa0\x80", b"\xe9\xa9", b"\xf4\x90\x80\x80",
        b"\x80"]
 RAW = "\ue000"  # a letter that stands for bytes which are no UTF-8
-QUERIES = ["", "", "f", "F", "a", "AB", "main", "Main", "b_1", "\u00e9", "f ", "x" * 300]
+QUERIES = ["", "", "f", "F", "a", "AB", "main", "Main", "b_1", "\u00e9", "f ", "\ud83d",
+           "x" * 255, "X" * 255, "x" * 256, "X" * 256, "x" * 300]
 NEW_NAMES = ["sum", "sum", "sum", "_2", "longer_name", *WORDS[:4], "A", "int", "", "1a", "a b",
-             "\u00e9", "sum\n", "x" * 300]
+             "\u00e9", "\ud83d", "sum\n", "x" * 300]
 METHODS = [
     "textDocument/implementation", "textDocument/formatting", "$/any", "",
     "exit", "callHierarchy/incomingCalls", "callHierarchy/outgoingCalls", "initialized",
@@ -78,12 +88,13 @@ METHODS = [
 QUIET = ["initialized", "$/cancelRequest", "$/setTrace", "workspace/didChangeConfiguration",
          "textDocument/willSave", "any", "initialize", "shutdown", "textDocument/hover"]
 NO_IDS = [None, True, [1], {}, 1.0, 1e300, 2**63, -(2**63) - 1]
-IDS = [0, -1, 2**63 - 1, -(2**63), "", "a", "\u00e9\"\\\n\x00\x7f\U0001f600", "1"]
+IDS = [0, -1, 2**63 - 1, -(2**63), "", "a", "\u00e9\"\\\n\x00\x7f\U0001f600", "1", "-0", *HALVES]
 WRONG = [None, True, 7, -1, 1.5, "", "7", [], {}, 2**64, "file:///w/a.c"]
-NO_JSON = [b"", b"{", b"nul", b"[1,]", b"{} {}", b"{'a':1}", b'{"a":"\\ud800"}', b"\xff", b"01",
+NO_JSON = [b"", b"{", b"nul", b"[1,]", b"{} {}", b"{'a':1}", b'{"a":"\\ud800"', b"\xff", b"01",
            b"[" * 129 + b"]" * 129, b"[" * 200, b'{"a" 1}', b'"\\x"', b'"\t"', b"NaN", b"1e", b"-"]
 NO_REQUESTS = [b"1", b"null", b'"a"', b"[]", b"{}", b'{"id":1}', b'{"method":7}', b'{"result":1}',
-               b"[" * 128 + b"]" * 128, b'{"id":1,"method":null,"result":2}', b"-0.5E+7", b" [ ] "]
+               b"[" * 128 + b"]" * 128, b'{"id":1,"method":null,"result":2}', b'"\\ud800"',
+               b"-0.5E+7", b" [ ] "]
 REPLIES = [b'{"id":1,"result":null}', b'{"id":null,"error":{}}', b'{"error":1,"id":{}}']
 BAD_HEADS = [
     b"Content-Length: x\r\n\r\n", b"Content-Length: 2\n\n{}", b"\r\n", b"X: 1\r\n\r\n",
@@ -120,14 +131,17 @@ class Editor:
         self.bounds = Bounds()
         if self.chance(0.1):
             self.bounds = Bounds(self.one(1, 2, 3), self.one(20, 200, 2_000))
-        names = self.random.sample(NAMES, self.one(0, 1, 2, 3, 5, 8))[: self.bounds.files]
+        # where files are read again the root is a folder of its own
+        self.home = home if self.chance(0.4) else None
+        names = self.random.sample(NAMES, self.one(0, 1, 2, 3, 5, 8))
+        if self.home is None and self.chance(0.1):
+            names.insert(0, STEPPING)
+        names = names[: self.bounds.files]
         texts = {name: self.text()[: self.bounds.file_bytes] for name in names}
         self.files = texts
         self.next: list[dict] = []  # what is to be sent before anything else is drawn
         self.is_renaming = False  # the next ones rename
         self.edited: dict[bytes, list[bytes]] = {}  # the names that files have to use then
-        # where files are read again the root is a folder of its own
-        self.home = home if self.chance(0.4) else None
         self.disk: dict[bytes, Optional[bytes]] = {}
         if self.home is not None:
             self.folder = self.home if self.chance(0.5) else None
@@ -162,13 +176,16 @@ class Editor:
             place = self.random.randint(0, len(text))
             more = self.one(*BAD) if self.chance(0.2) else self.one(*ODD).encode()
             text = text[:place] + more + text[place:]
-        return text
+        return MARK + text if self.chance(0.05) else text
 
     def sent_text(self) -> str:
         """A text in a message. What is no UTF-8 stands as such or as the bytes that it is."""
         if self.chance(0.02):
             return "x" * self.one(self.bounds.file_bytes, self.bounds.file_bytes + 1)
         text = self.text().decode("utf-8", "replace")
+        if self.chance(0.1):
+            place = self.random.randint(0, len(text))
+            text = text[:place] + self.one(*HALVES) + text[place:]
         return text.replace("\ufffd", RAW) if self.chance(0.5) else text
 
     def uri(self) -> str:
@@ -180,10 +197,14 @@ class Editor:
         name = self.one(*NAMES)
         if there and kind < 0.8:
             name = self.one(*there)
-        elif kind < 0.86:
-            name = self.one(*OUTSIDE, *NOT_NAMES)
+        elif kind < 0.88:
+            name = self.one(self.one(*OUTSIDE), self.one(*NOT_NAMES))
         root = self.server.root.path.decode("utf-8", "replace")
         path = name if name.startswith("/") else f"{root}/{name}"
+        if self.chance(0.12):
+            slash = self.one(*(it.start() for it in re.finditer("/", path)))
+            path = path[:slash] + self.one(*DETOURS) + path[slash + 1 :]
+            path += self.one("", "", "", "/", "/.", "/..")
         begin = self.one("file://", "file://", "file://", "file://localhost", "File://LOCALHOST")
         return begin + self.escaped(path)
 
@@ -264,7 +285,7 @@ class Editor:
         places = [self.position(uri) for _ in range(self.one(1, 2, 2))]
         if self.chance(0.9):
             places.sort(key=lambda it: (it["line"], it["character"]))
-        texts = "", self.one(*WORDS), self.one(*ODD), self.one(*DEFINING)
+        texts = "", self.one(*WORDS), self.one(*ODD), self.one(*DEFINING), self.one(*HALVES)
         text = self.one(*texts) if self.chance(0.95) else self.sent_text()
         change: dict = {"range": {"start": places[0], "end": places[-1]}, "text": text}
         if self.chance(0.05):
@@ -498,6 +519,7 @@ class Editor:
             self.initialize: 0.2,
             self.end: 0.2 if phase != "down" else 2,
             self.no_message: 1,
+            self.cut_message: 0.6 if self.server.documents else 0.1,
         }
         made = self.random.choices([*weights], [*weights.values()])[0]()
         return made if isinstance(made, bytes) else self.encoded(made)
@@ -509,6 +531,11 @@ class Editor:
 
     def no_message(self) -> bytes:
         return self.one(self.one(*NO_JSON), self.one(*NO_REQUESTS), self.one(*REPLIES))
+
+    def cut_message(self) -> bytes:
+        """A message about a document that is cut, or goes on behind its end."""
+        body = self.encoded(self.one(self.change, self.change, self.open, self.close)())
+        return self.one(body[:-1], body[: self.random.randint(0, len(body))], body + b"}")
 
     def encoded(self, value: dict) -> bytes:
         """The body of a value, in one of the ways to write it."""
@@ -525,12 +552,21 @@ class Editor:
         )
         if self.chance(0.1):
             text = text.replace("/", "\\/")
+        if self.chance(0.5):
+            text = text.replace('"-0"', "-0")
+        if self.chance(0.2):
+            text = re.sub(r"\\ud[89a-f]..", lambda it: "\\u" + it[0][2:].upper(), text)
         if self.chance(0.05):
             # of two members with one name the last counts
             text = '{"id":"first","method":"first","params":[],' + text[1:]
             text += " \n"
-        body = text.replace(RAW, "\x00" if RAW in text else "").encode()
+        body = text.replace(RAW, "\x00" if RAW in text else "").encode("utf-8", "surrogatepass")
         return b"".join(self.one(*BAD) if it == b"\x00" else it for it in re.split(b"(\x00)", body))
+
+    def too_large(self) -> bytes:
+        """A message that is dropped for its size."""
+        self.server.drop_body(b"too large")
+        return frame(b"x" * (MOST_BODY + 1))
 
     def framed(self, body: bytes) -> bytes:
         if self.chance(0.8):
@@ -546,6 +582,8 @@ class Editor:
     def session(self) -> Session:
         data, left, is_open = b"", self.random.randint(3, 60), True
         while left and is_open:
+            if self.server.documents and self.chance(0.001):
+                data += self.too_large()
             body = self.message()
             more = self.framed(body)
             before = len(self.server.out)

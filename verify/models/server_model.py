@@ -21,6 +21,8 @@ from text_model import RESERVED, cut_lines, header, parts_of
 sys.set_int_max_str_digits(0)
 MOST_HEAD, MOST_BODY, MOST_DEPTH = 4_096, 16_000_000, 128
 MOST_SYMBOLS, MOST_HOVERED, MOST_COMPLETIONS = 1_000, 8, 1_000
+MOST_LINE, MOST_QUERY = 400, 255
+DROPPED = b"out of date, a message was dropped: close the file and open it again"
 WELCOME = (
     b'{"capabilities":{"positionEncoding":"%s",'
     b'"textDocumentSync":{"openClose":true,"change":2,"save":true},"hoverProvider":true,'
@@ -76,6 +78,13 @@ SEQUENCE = re.compile(
     | [\xe1-\xec\xee\xef][\x80-\xbf]{2} | \xed[\x80-\x9f][\x80-\xbf]
     | \xf0[\x90-\xbf][\x80-\xbf]{2} | [\xf1-\xf3][\x80-\xbf]{3} | \xf4[\x80-\x8f][\x80-\xbf]{2}
     | (?P<lone> . )""",
+    re.VERBOSE | re.DOTALL,
+)
+# escapes of both halves of a surrogate pair, of one half alone, and any other character
+HALVES = re.compile(
+    rb"""
+    \\u[Dd][89ABab][0-9A-Fa-f]{2} \\u[Dd][C-Fc-f][0-9A-Fa-f]{2}
+    | (?P<lone> \\u[Dd][89A-Fa-f][0-9A-Fa-f]{2} ) | \\. | .""",
     re.VERBOSE | re.DOTALL,
 )
 SHORT = {0x22: b'\\"', 0x5C: b"\\\\", 8: b"\\b", 12: b"\\f", 10: b"\\n", 13: b"\\r", 9: b"\\t"}
@@ -144,8 +153,22 @@ def depth_of(text):
     return deepest
 
 
+def with_whole_pairs(body):
+    """A body with U+FFFD for each half of a surrogate pair without the other half."""
+    return HALVES.sub(lambda it: b"\\uFFFD" if it["lone"] else it[0], body)
+
+
 def parsed(body):
-    """The value of a body; it raises ValueError where the body is no JSON."""
+    """The value of a body, which is read once more where it is not JSON; it raises ValueError where
+    the body is not JSON then either."""
+    try:
+        return parsed_once(body)
+    except ValueError:
+        return parsed_once(with_whole_pairs(body))
+
+
+def parsed_once(body):
+    """The value of a body; it raises ValueError where the body is not JSON as it stands."""
     text = body.decode("utf-8", "replace")
     if depth_of(text) > MOST_DEPTH:
         raise ValueError("too deep")
@@ -254,6 +277,23 @@ def units_of(sequence, is_utf16):
     return 2 if len(sequence) == 4 else 1
 
 
+def cut(line, most):
+    """The first characters of a line that have at most so many bytes."""
+    end = 0
+    for found in SEQUENCE.finditer(line):
+        if found.end() > most:
+            break
+        end = found.end()
+    return line[:end]
+
+
+def is_counted_alike(text):
+    """Whether all editors count the same columns in a text: it is UTF-8, without a byte order mark
+    and without a CR that no LF follows."""
+    is_utf8 = all(found["lone"] is None for found in SEQUENCE.finditer(text))
+    return is_utf8 and not text.startswith(b"\xef\xbb\xbf") and not re.search(b"\r(?!\n)", text)
+
+
 def width(line, is_utf16):
     return sum(units_of(found[0], is_utf16) for found in SEQUENCE.finditer(line))
 
@@ -312,12 +352,22 @@ def headers(text):
 FILE_URI = re.compile(rb"(file://(?:localhost)?)(/.*)", re.IGNORECASE | re.DOTALL)
 
 
+def one_form(path):
+    """A path without empty segments and without dots, and with a slash before each segment."""
+    return b"".join(b"/" + it for it in path.split(b"/") if it not in (b"", b"."))
+
+
 def path_of(uri):
-    """The path of a file URI, or none."""
+    """The path of a file URI in its one form, or none."""
     found = FILE_URI.fullmatch(uri)
     if found is None:
         return None
-    return re.sub(rb"%([0-9A-Fa-f]{2})", lambda it: bytes([int(it[1], 16)]), found[2])
+    return one_form(re.sub(rb"%([0-9A-Fa-f]{2})", lambda it: bytes([int(it[1], 16)]), found[2]))
+
+
+def may_be_named(name):
+    """Whether a document can have a name: it is a file name, and has no segment of two dots."""
+    return is_file_name(name) and b".." not in name.split(b"/")
 
 
 def escaped(path):
@@ -348,13 +398,13 @@ class Root(NamedTuple):
 
 def root_of_words(folder):
     path = folder.rstrip(b"/")
-    return Root(path, b"file://" + escaped(path))
+    return Root(one_form(path), b"file://" + escaped(path))
 
 
 def root_of_uri(uri):
     """The root that a client gives by a file URI, whose text stays without slashes at its end."""
     begin, path = FILE_URI.fullmatch(uri).groups()
-    return Root(path_of(uri).rstrip(b"/"), begin + path.rstrip(b"/"))
+    return Root(path_of(uri), begin + path.rstrip(b"/"))
 
 
 # ---- the server
@@ -448,7 +498,7 @@ class Server:
                 if place > len(data):
                     raise Ended(1, b"input ended")
                 if size > MOST_BODY:
-                    self.log(b"too large")
+                    self.drop_body(b"too large")
                 else:
                     self.take(data[start:place])
             raise Ended(0 if self.phase == "down" else 1, b"")
@@ -456,12 +506,18 @@ class Server:
             status, said = ended.args
         return Outcome(self.out, b"cbrowse: %s\n" % said if said else b"", status)
 
+    def drop_body(self, text):
+        """A body is dropped, which may have been a change: every document is lost."""
+        self.log(text)
+        for name, document in self.documents.items():
+            self.lose(name, document.kept, DROPPED)
+
     def take(self, body):
         """What a message says: a request, a notification, or nothing that counts."""
         try:
             value = parsed(body)
         except ValueError:
-            return self.log(b"not JSON")
+            return self.drop_body(b"not JSON")
         if not isinstance(value, dict):
             return self.log(b"not a request")
         if "method" not in value and "id" in value and ("result" in value or "error" in value):
@@ -561,10 +617,14 @@ class Server:
     # ---- documents
 
     def file_of(self, params):
-        """The name of the file that a notification or a request is about, or none."""
+        """The name of the file that a request is about, or none."""
         path = path_of(string_of(params, "textDocument", "uri"))
-        name = None if path is None else self.root.name_in(path)
-        return name if name is not None and is_file_name(name) else None
+        return None if path is None else self.root.name_in(path)
+
+    def document_of(self, params):
+        """The name of the file that a notification is about, or none."""
+        name = self.file_of(params)
+        return name if name is not None and may_be_named(name) else None
 
     def store(self, name, text):
         """Gives a file a text, or says why not."""
@@ -583,7 +643,7 @@ class Server:
         self.documents[name] = Document(kept, True)
 
     def did_open(self, params):
-        path, name = path_of(string_of(params, "textDocument", "uri")), self.file_of(params)
+        path, name = path_of(string_of(params, "textDocument", "uri")), self.document_of(params)
         if path is None or path[-2:] not in (b".c", b".h"):
             return
         if name is None:
@@ -597,7 +657,7 @@ class Server:
             self.lose(name, None, refusal)
 
     def did_change(self, params):
-        name = self.file_of(params)
+        name = self.document_of(params)
         if name not in self.documents:
             return
         kept, is_lost = self.documents[name]
@@ -618,12 +678,12 @@ class Server:
             self.lose(name, kept, refusal)
 
     def did_save(self, params):
-        name = self.file_of(params)
+        name = self.document_of(params)
         if name in self.documents and not self.documents[name].is_lost:
             self.documents[name] = Document(self.world.files[name])
 
     def did_close(self, params):
-        name = self.file_of(params)
+        name = self.document_of(params)
         if name in self.documents:
             kept = self.documents.pop(name).kept
             self.read_again(name, path_of(string_of(params, "textDocument", "uri")), kept)
@@ -650,7 +710,7 @@ class Server:
             name = None if path is None else self.root.name_in(path)
             if name is None or name in self.documents:
                 continue
-            may_come = is_file_name(name) and name != path
+            may_come = may_be_named(name) and name != path
             if kind.value == 3 and name in self.world.files:
                 self.world = drop(self.world, name)
             elif kind.value in (1, 2) and (name in self.world.files or may_come):
@@ -757,7 +817,7 @@ class Server:
         for it in meant:
             line = it.definition.line
             row = cut_lines(self.world.files[it.file])[line - 1][0].lstrip(b" \t")
-            rows.append(b"%s:%d\n%s" % (it.file, line, row))
+            rows.append(b"%s:%d\n%s" % (it.file, line, cut(row, MOST_LINE)))
         contents = b'{"kind":"plaintext","value":%s}' % quoted(b"\n\n".join(rows))
         span = range_form(text, *word, self.is_utf16)
         return b'{"contents":%s,"range":%s}' % (contents, span)
@@ -821,11 +881,14 @@ class Server:
         return b'{"changes":{%s}}' % b",".join(edits)
 
     def may_edit(self, file):
-        """Whether an editor has the text of a file: it is open and not lost, or it is not open and
-        has that text on disk."""
+        """Whether an editor makes the edits of a file where they belong: the file is below the
+        root, and it is open and not lost, or has on disk a text that all editors count alike."""
+        if file.startswith(b"/"):
+            return False
         if file in self.documents:
             return not self.documents[file].is_lost
-        return self.disk.get(self.root.path_of(file)) == self.world.files[file]
+        text = self.world.files[file]
+        return self.disk.get(self.root.path_of(file)) == text and is_counted_alike(text)
 
     def edits(self, file, places, name, new):
         return listed(
@@ -849,9 +912,11 @@ class Server:
         if file is None:
             return b"null"
         word = re.search(rb"\w*\Z", text[:place])[0]
+        if not word:
+            return b'{"isIncomplete":true,"items":[]}'
         kinds: dict = {}  # by name: that of the first definition
         for it in self.places():
-            if word and it.definition.name.startswith(word):
+            if it.definition.name.startswith(word):
                 kinds.setdefault(it.definition.name, COMPLETION_KINDS[it.definition.kind])
         told = sorted(kinds)[:MOST_COMPLETIONS]
         items = (b'{"label":%s,"kind":%d}' % (quoted(it), kinds[it]) for it in told)
@@ -953,6 +1018,7 @@ class Server:
             for it in named
             if it.definition.name != query and query.lower() in it.definition.name.lower()
         ]
+        holding = holding if len(query) <= MOST_QUERY else []
         return listed(self.symbol(it, False) for it in (exact + holding)[:MOST_SYMBOLS])
 
 
