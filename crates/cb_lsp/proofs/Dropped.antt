@@ -1,7 +1,7 @@
 -- A message that is dropped: what is written, and what it leaves.
-use Rattle.std.proofs.Common.{◌≡◌, ◌∙◌, ap, refl, subst, sym, List, [], ◌∷◌, ◌++◌, Bool, true, false}
-use Rattle.std.proofs.Common.{append-nil, append_assoc, flat_map}
-use Rattle.std.specs.Prelude.{ℕ, Ok, Err, Option, None, Some, Result}
+use Rattle.std.proofs.Common.{◌≡◌, ◌∙◌, ap, refl, subst, sym, List, [], ◌∷◌, ◌++◌, Bool, false}
+use Rattle.std.proofs.Common.{flat_map}
+use Rattle.std.specs.Prelude.{Ok, Err, Option, None, Some, Result}
 use Rattle.std.specs.List.{AllByRecursion}
 use Rattle.std.proofs.lemmas.Grind.{flat_map-append}
 use Rattle.json.specs.Json.{Json}
@@ -79,9 +79,12 @@ pub drops : (finds : Looked → Type 0) (P : Message → Type 0) (t : Turn) (j :
     (goes : Result Bool WriteFault) → IsOf P t → dropped s j ≡ outcome s t → is_last t ≡ false
     → goes ≡ going_on r → Does (dropped s j) next old new r
     → TakesBody finds P s next old new goes
-drops finds P t j s next old new r goes p is last going does =
-    (t, p, subst (Takes finds t s next old new) (sym going)
-    (takes-drop finds t j s next old new r is last does))
+drops finds P t j s next old new r goes p is last going does = (
+  t,
+  p,
+  subst (Takes finds t s next old new) (sym going)
+      (takes-drop finds t j s next old new r is last does),
+)
 
 -- the same of a body that is JSON, or is not
 pub some-taken : (finds : Looked → Type 0) (j : Option Json) (s next : Serving) (old new : Writer)

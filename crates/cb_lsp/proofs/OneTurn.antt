@@ -3,14 +3,13 @@ use Rattle.std.proofs.Common.{◌≡◌, ℕ, Bool, true, false, List, [], Optio
 use Rattle.std.proofs.Common.{Ok, Err, refl, sym, ap, ◌∙◌, subst, inr, append-nil}
 use Rattle.std.specs.Prelude.{codes}
 use Rattle.std.specs.Io.KnownBytes.{Appends, Keeps}
-use Rattle.std.specs.List.{AllByRecursion}
 use Rattle.std.proofs.KnownBytes.{Appends-nil}
 use Rattle.std.proofs.lemmas.Slice.Eq.{bytes_eq-Decides}
 use Rattle.json.specs.Json.{Json}
 use Rattle.cb_tags.specs.declared.sink.WriteFault.{WriteFault}
 use Rattle.cb_tags.specs.Readers.{Reader}
 use Rattle.cb_tags.specs.Writers.{Writer}
-use Rattle.cb_tags.specs.Writing.{AppendsPrefix, Puts, PutsAll}
+use Rattle.cb_tags.specs.Writing.{AppendsPrefix, PutsAll}
 use Rattle.cb_wire.specs.declared.frame.FrameError.{FrameError}
 use Rattle.cb_wire.specs.declared.frame.FrameError.TheVariants.{BadHeader, InputEnded, Read}
 use Rattle.cb_wire.specs.Frames.{First, ReadsFrame, body, too_large as too_long}
@@ -23,7 +22,7 @@ use Rattle.cb_lsp.specs.Messages.{notification, noticed_by, reply, request, stay
 use Rattle.cb_lsp.specs.Bodies.{IsMessage, IsOf, Takes, Turn, is_last, outcome, refused}
 use Rattle.cb_lsp.specs.Bodies.{reply_text, taken, written_text}
 use Rattle.cb_lsp.specs.Endings.{IsClosed, IsEnd, IsNext, LeavesTurn, ending_at}
-use Rattle.cb_lsp.specs.steps.Turns.{GoesOn, ending_of, going_on}
+use Rattle.cb_lsp.specs.steps.Turns.{GoesOn, ending_of}
 use Rattle.cb_lsp.proofs.Notices.{quiet}
 
 -- ---- the last message

@@ -1,15 +1,14 @@
 -- What the parts of a turn leave.
-use Rattle.std.proofs.Common.{◌≡◌, Bool, false, [], sym, subst}
+use Rattle.std.proofs.Common.{◌≡◌, Bool}
 use Rattle.std.specs.List.{AllByRecursion}
-use Rattle.std.specs.Prelude.{Result, Ok, Err}
+use Rattle.std.specs.Prelude.{Ok, Err}
 use Rattle.cb_tags.specs.Writers.{Writer}
-use Rattle.cb_tags.specs.Writing.{Puts, PutsAll, PutsPrefix}
+use Rattle.cb_tags.specs.Writing.{PutsAll, PutsPrefix}
 use Rattle.cb_tags.specs.declared.sink.WriteFault.{WriteFault}
 use Rattle.cb_lsp.specs.Documents.{Looked, Oracle}
 use Rattle.cb_lsp.specs.Messages.{Message, Serving, does}
-use Rattle.cb_lsp.specs.Bodies.{Turn, is_last, outcome, taken, written_text}
-use Rattle.cb_lsp.specs.Bodies.{IsOf, TakesBody}
-use Rattle.cb_lsp.specs.steps.Turns.{going_on}
+use Rattle.cb_lsp.specs.Bodies.{is_last, taken, written_text}
+use Rattle.cb_lsp.specs.Bodies.{TakesBody}
 
 -- a message is taken
 pub takes-ok : (finds : Looked → Type 0) (P : Message → Type 0) (m : Message) (o : Oracle)

@@ -6,7 +6,7 @@ use Rattle.std.specs.List.{AllByRecursion}
 use Rattle.std.specs.Option.{option_map}
 use Rattle.std.specs.Str.{bytes_eq}
 use Rattle.json.specs.Json.{Json}
-use Rattle.cb_desk.specs.World.{File, text_of_file}
+use Rattle.cb_desk.specs.World.{File}
 use Rattle.cb_index.specs.Rows.{Fact}
 use Rattle.cb_tags.specs.Writers.{Writer}
 use Rattle.cb_tags.specs.Writing.{Puts}
@@ -18,7 +18,6 @@ use Rattle.cb_lsp.specs.Answers.{answer_reply, reply_with}
 use Rattle.cb_lsp.specs.Bodies.{Replies}
 use Rattle.cb_lsp.specs.Clients.{Client}
 use Rattle.cb_lsp.specs.Documents.{Document, Looked, Oracle, Reading, Work, behind_reading, is_open}
-use Rattle.cb_lsp.specs.Documents.{looked_at}
 use Rattle.cb_lsp.specs.Renames.{Check, Unrenamed, all_edits, behind_file, check, check_more}
 use Rattle.cb_lsp.specs.Renames.{check_open, check_read, checks, files_of, ok_unless}
 use Rattle.cb_lsp.specs.Renames.{not_open, renamed_if, then_check}

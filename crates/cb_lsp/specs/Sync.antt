@@ -15,7 +15,7 @@ use Rattle.cb_lsp.specs.declared.notice.Notice.TheVariants.{Ready, Open, Change,
 use Rattle.cb_lsp.specs.declared.notice.Notice.TheVariants.{Files}
 use Rattle.cb_lsp.specs.declared.server.Stage.{Stage}
 use Rattle.cb_lsp.specs.declared.server.Stage.TheVariants.{Fresh, Running, Down}
-use Rattle.cb_lsp.specs.Documents.{Document, Reading, Oracle, Told, Work, document_of, removed}
+use Rattle.cb_lsp.specs.Documents.{Document, Oracle, Told, Work, document_of, removed}
 use Rattle.cb_lsp.specs.Documents.{renewed}
 use Rattle.cb_lsp.specs.Messages.{Message, Serving, does, fresh_server, not_json, notice_of}
 use Rattle.cb_lsp.specs.Messages.{notification, request, told_of, too_large}

@@ -1,4 +1,4 @@
-use Rattle.std.proofs.Common.{◌≡◌, ◌∙◌, ap, arith, flat_map, subst, sym}
+use Rattle.std.proofs.Common.{◌≡◌, ◌∙◌, ap, arith, flat_map, subst}
 use Rattle.std.proofs.lemmas.List.{take_all}
 use Rattle.cb_tags.specs.Writing.{PutsAll, PutsPrefix}
 use Rattle.cb_tags.proofs.Prefixes.{Puts-fault, PutsAll-element, PutsPrefix-element}

@@ -1,5 +1,5 @@
-use Rattle.std.proofs.Common.{◌≡◌, ◌≤◌, ◌∙◌, ◌-◌, ◌==◌, ◌∷◌, [], List, ap, drop, get_or, length, map}
-use Rattle.std.proofs.Common.{refl, sym, take, ℕ, false, suc, zero}
+use Rattle.std.proofs.Common.{◌≡◌, ◌≤◌, ◌∙◌, ◌-◌, ◌∷◌, [], List, ap, drop, get_or, length, map}
+use Rattle.std.proofs.Common.{refl, sym, take, ℕ}
 use Rattle.std.proofs.lemmas.Bool.{cond-false, ne_eqb}
 use Rattle.std.proofs.lemmas.List.{length-map}
 use Rattle.cb_wire.specs.Values.{value_text}

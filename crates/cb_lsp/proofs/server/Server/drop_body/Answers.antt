@@ -8,6 +8,8 @@ returns-in-Ok g c =
     c.log.new.out c.lose_all.new.out c.lose_all.result c.in-Ok.ensures c.lose_all.ensures
 
 pub returns-in-Err : goal.returns-in-Err
-returns-in-Err g c =
-    (tt, first-fails c.args.self.now (log_of c.args.why.now) c.args.out.now c.log.new.out
-    c.in-Err.ensures)
+returns-in-Err g c = (
+  tt,
+  first-fails c.args.self.now (log_of c.args.why.now) c.args.out.now c.log.new.out
+      c.in-Err.ensures,
+)

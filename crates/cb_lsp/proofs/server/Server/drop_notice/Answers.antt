@@ -16,7 +16,9 @@ returns-in-Ok g c =
 
 pub returns-in-Err : goal.returns-in-Err
 returns-in-Err g c =
-    let j = unread c.args.uri.now in
-    (tt, first-fails c.args.self.now j c.args.out.now c.put_unread.new.out
-    (subst (PutsPrefix c.args.out.now c.put_unread.new.out)
-    (sym (append-nil (frame (value_text j)))) c.in-Err.ensures))
+    let j = unread c.args.uri.now in (
+      tt,
+      first-fails c.args.self.now j c.args.out.now c.put_unread.new.out
+          (subst (PutsPrefix c.args.out.now c.put_unread.new.out)
+          (sym (append-nil (frame (value_text j)))) c.in-Err.ensures),
+    )

@@ -1,4 +1,4 @@
-use Rattle.std.proofs.Common.{◌∙◌, ap, subst, refl}
+use Rattle.std.proofs.Common.{◌∙◌, subst, refl}
 use Rattle.json.specs.Json.{document}
 use Rattle.cb_wire.specs.Messages.{text_of}
 use Rattle.cb_lsp.specs.Messages.{log_of, out_of_memory}

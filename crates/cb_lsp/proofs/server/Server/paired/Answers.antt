@@ -1,4 +1,4 @@
-use Rattle.std.proofs.Common.{◌≡◌, ◌∙◌, None, Ok, Err, ap, refl, subst, sym}
+use Rattle.std.proofs.Common.{◌≡◌, ◌∙◌, None, Ok, ap, refl, subst, sym}
 use Rattle.std.specs.Prelude.{codes}
 use Rattle.json.specs.Json.{document}
 use Rattle.cb_tags.specs.Writers.{Writer}

@@ -1,4 +1,4 @@
-use Rattle.std.proofs.Common.{◌≡◌, ◌∙◌, None, Ok, Err, ap, refl, subst, sym}
+use Rattle.std.proofs.Common.{Ok, Err, subst, sym}
 use Rattle.json.specs.Json.{document}
 use Rattle.cb_tags.specs.Writers.{Writer}
 use Rattle.cb_wire.specs.Messages.{text_of}

@@ -28,9 +28,11 @@ returns-in-Ok-None g c =
 pub returns-in-Err : goal.returns-in-Err
 returns-in-Err g c =
     let unread = noticed-unread c.args.notice c.args.self.now (seen c.args.params)
-    c.as_bytes-in-Err.result.now (ap Some c.as_bytes-in-Err.ensures.value ∙ c.in-Some.ensures) in
-    (behind true quiet, by-same (g.D.Disk.finds c.args.disk.now) _ _ _ _ _ _ unread
-    (c.drop_notice.ensures, on-ok _ tt))
+    c.as_bytes-in-Err.result.now (ap Some c.as_bytes-in-Err.ensures.value ∙ c.in-Some.ensures) in (
+      behind true quiet,
+      by-same (g.D.Disk.finds c.args.disk.now) _ _ _ _ _ _ unread
+          (c.drop_notice.ensures, on-ok _ tt),
+    )
 
 pub returns-in_default : goal.returns-in_default
 returns-in_default g c =
