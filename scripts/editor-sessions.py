@@ -376,6 +376,21 @@ def rows(room: pathlib.Path) -> list[Row]:
     return [row_of(lines[a:b], room) for a, b in zip(starts, [*starts[1:], len(lines)])]
 
 
+def outgoing_asked(line: int, called: list[int]) -> tuple[bytes, bytes]:
+    """What `f` on this line of a.c calls: `G` of each line before, so many calls each."""
+    places = [span(str(line), f"{13 + 4 * call}-{14 + 4 * call}") for call in range(300)]
+    listed = [
+        '{"to":{"name":"G","kind":14,"uri":"file:///w/a.c","range":%s,"selectionRange":%s},'
+        '"fromRanges":[%s]}'
+        % (span(str(at), "0-11"), span(str(at), "8-9"), ",".join(places[:calls]))
+        for at, calls in enumerate(called)
+    ]
+    place = {"start": {"line": line, "character": 5}}
+    item = {"name": "f", "uri": "file:///w/a.c", "selectionRange": place}
+    sent = message(id=1, method="callHierarchy/outgoingCalls", params={"item": item})
+    return sent, result("1", "[%s]" % ",".join(listed))
+
+
 def made_rows() -> Iterator[Row]:
     """Rows with many symbols and with the largest bodies."""
     global root
@@ -419,6 +434,17 @@ def made_rows() -> Iterator[Row]:
         {"many.h": text, **files},
         [*opening, (sent, reply), *ENDING],
     )
+    # of 1,001 definitions 1,000 are listed, and of 400 times 300 calls 100,000
+    for title, definitions, calls, told_calls in (
+        ("over 1,000 outgoing calls", 1_001, 1, [1] * 1_000),
+        ("over 100,000 places of outgoing calls", 400, 300, [300] * 333 + [100]),
+    ):
+        yield Row(
+            title,
+            ["lsp", "a.c"],
+            {"a.c": b"#define G 1\n" * definitions + b"void f(void){%s}\n" % (b"G();" * calls)},
+            [*opening, outgoing_asked(definitions, told_calls), *ENDING],
+        )
     last = b'{"jsonrpc":"2.0","id":1,"method":"textDocument/formatting"}'
     bodies = [
         (last.rjust(MOST_BODY), error("1", "-32601", "unknown method")),

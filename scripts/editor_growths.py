@@ -1,11 +1,13 @@
 """A session of an editor with the language server, in which each growth of memory is refused.
 
 A message whose growth is refused is told by a log, by an error as its reply, or by what is shown
-for its document. After a log, an error and a show of the URI all goes on as if the message had not
-been sent. After a show of the file's name it goes on as if the text had been too large, and of a
-document that was closed, as if it had been saved before; one that was opened may not be open then
-either, and a file that was deleted or written stays as it was. So runs in which nothing is refused
-give each outcome that may be. At the start the program says that memory was refused, and ends.
+for its document. After an error, and after a show of the URI of a file event, all goes on as if the
+message had not been sent. After a log, and after a show of the URI of a document, it goes on as if
+a body that is not JSON had been sent: the open documents are out of date. After a show of the
+file's name it goes on as if the text had been too large, and of a document that was closed, as if
+it had been saved before; one that was opened may not be open then either, and a file that was
+deleted or written stays as it was. So runs in which nothing is refused give each outcome that may
+be. At the start the program says that memory was refused, and ends.
 """
 
 from __future__ import annotations
@@ -30,6 +32,7 @@ ROOM = tempfile.TemporaryDirectory(prefix="a tree ")  # the root, where a file i
 pathlib.Path(ROOM.name, "disk.h").write_bytes(b"#define D TWICE(5)\n" * 200)
 pathlib.Path(ROOM.name, "b.h").write_bytes(FILES["b.h"])  # a rename finds it as it is here
 TOO_LARGE = " " * (MOST_BYTES + 1)
+NOT_JSON = "{"
 WORDS = ["lsp", "--max-file-bytes", str(MOST_BYTES), *FILES]
 AT_START = [b"cbrowse: " + name + b"out of memory\n" for name in (b"", b"a.c: ", b"b.h: ")]
 # requests that name a position
@@ -148,13 +151,17 @@ def session() -> list[Step]:
     ]
 
 
-def frame(message: dict) -> bytes:
-    body = json.dumps({"jsonrpc": "2.0", **message}, ensure_ascii=False, separators=(",", ":"))
+def frame(message: dict | str) -> bytes:
+    """A message, or a body as it is."""
+    body = message
+    if not isinstance(message, str):
+        members = {"jsonrpc": "2.0", **message}
+        body = json.dumps(members, ensure_ascii=False, separators=(",", ":"))
     return b"Content-Length: %d\r\n\r\n%s" % (len(body.encode()), body.encode())
 
 
-def told_by(method: str, kind: int, text: str) -> bytes:
-    params = {"type": kind, "message": f"cbrowse: {text}out of memory"}
+def told_by(method: str, kind: int, name: str, why: str = "out of memory") -> bytes:
+    params = {"type": kind, "message": f"cbrowse: {name}{why}"}
     return frame({"method": f"window/{method}", "params": params})
 
 
@@ -193,7 +200,7 @@ class Editing:
         for name, text in FILES.items():
             (folder / name).write_bytes(text)
 
-    def run(self, messages: Iterable[dict], refuse: int = 0) -> tuple[int, bytes, bytes]:
+    def run(self, messages: Iterable[dict | str], refuse: int = 0) -> tuple[int, bytes, bytes]:
         pipes = {it: subprocess.PIPE for it in ("stdin", "stdout", "stderr")}
         words = [self.program, *WORDS]
         run = self.growths.start(words, refuse, cwd=self.folder, **pipes)
@@ -215,18 +222,31 @@ class Editing:
         found = {(0, whole): "nothing"}
         for number, step in enumerate(self.steps):
             out = self.run(messages[:number])[1]
-            status, rest = self.after(number, [])
-            tells = [told_by("logMessage", 1, "")]
-            if "id" in step.message:
-                tells.append(error_to(step.message["id"]))
             uri = told_uri(step.message)
             name = uri.split("/")[-1]
-            if uri:
+            is_event = step.message["method"].endswith("didChangeWatchedFiles")
+            # nothing was sent
+            status, rest = self.after(number, [])
+            tells = []
+            if "id" in step.message:
+                tells.append(error_to(step.message["id"]))
+            if is_event:
                 tells.append(told_by("showMessage", 2, uri + ": "))
-            if step.message["method"].endswith(("didOpen", "didChangeWatchedFiles")):
+            if is_event or step.message["method"].endswith("didOpen"):
                 tells.append(told_by("showMessage", 2, name + ": "))
             for tell in tells:
                 found[status, out + tell + rest] = f"message {number}"
+            # a body was dropped
+            status, dropped, _ = self.run([*messages[:number], NOT_JSON, *messages[number + 1 :]])
+            log = told_by("logMessage", 1, "", "not JSON")
+            if not dropped.startswith(out + log):
+                raise Wrong(f"a session of an editor: a body is not dropped: {dropped!r}")
+            rest = dropped[len(out + log) :]
+            tells = [told_by("logMessage", 1, "")]
+            if uri and not is_event:
+                tells.append(told_by("showMessage", 2, uri + ": "))
+            for tell in tells:
+                found[status, out + tell + rest] = f"the body of message {number}"
             if step.refused:
                 status, rest = self.after(number, step.refused)
                 tell = told_by("showMessage", 2, name + ": ")
