@@ -37,6 +37,7 @@ from session import Session
 
 RUNS = 3
 DOCUMENT, TINY = "document.c", "tiny.c"  # of the language server
+CLOSED_BRACES = b"f(){" + b"{" * 490_000 + b"}" * 490_000 + b"}\n"
 QUESTIONS = [b"r\n"] + [
     b"%s%s\n" % (field, name)
     for name in (b"a", b"f", b"none")
@@ -192,8 +193,7 @@ def put_served(cbrowse, folder):
         named = " ".join(("server: opened, folded", *profile))
         usual = row(named, lines(code(), 990_000), opened, profile=profile)
         row("nested braces", again(b"{", 990_000), opened, usual, profile)
-        closed = b"f(){" + b"{" * 490_000 + b"}" * 490_000 + b"}\n"
-        row("nested braces that are closed", closed, opened, usual, profile)
+        row("nested braces that are closed", CLOSED_BRACES, opened, usual, profile)
 
 
 # ---- rows
@@ -224,8 +224,7 @@ def main():
         wide = measured([lines(code(), MOST_BYTES)], profile=("--wide",))
         put("ordinary code --wide", wide)
         put("{ --wide", measured([again(b"{")], profile=("--wide",)), wide)
-        closed = b"f(){" + b"{" * 490_000 + b"}" * 490_000 + b"}\n"
-        put("{..} --wide", measured([closed], profile=("--wide",)), wide)
+        put("{..} --wide", measured([CLOSED_BRACES], profile=("--wide",)), wide)
         line = b"int a;\nvoid f(void) {" + again(b" a;", 300_000) + b"}\n"
         put(
             "100,000 uses of a name on a line",
