@@ -18,8 +18,8 @@ Braces that are nested, open and closed, are shown by the wide profile too.
 The language server has one document of about a million bytes. The rows after `server:` show the
 least processor time of several equal messages, each hard one beside an ordinary one in as many
 bytes: a query that begins as each name goes on, over names of 30,000 bytes; the symbols of one line
-with a letter outside ASCII, so that columns have to be counted; 2,000 parts of a change at the end
-of the document, beside a whole text; and nested braces, opened and folded.
+with a letter outside ASCII, backwards, so that each column is counted from the start; 2,000 parts
+of a change at the end of the document, beside a whole text; and nested braces, opened and folded.
 
 No tags are asked for: each tag shows its whole line, so that n definitions on one line have n times
 its length of them.
@@ -37,6 +37,7 @@ from session import Session
 
 RUNS = 3
 DOCUMENT, TINY = "document.c", "tiny.c"  # of the language server
+CLOSED_BRACES = b"f(){" + b"{" * 490_000 + b"}" * 490_000 + b"}\n"
 QUESTIONS = [b"r\n"] + [
     b"%s%s\n" % (field, name)
     for name in (b"a", b"f", b"none")
@@ -174,13 +175,16 @@ def put_served(cbrowse, folder):
         return found
 
     names = again(b"int " + b"a" * 30_000 + b"(void) {\n}\n", 950_000)
-    usual = row("server: symbols that hold a text", lines(code(), len(names)), query("ab_b"))
-    row("aaa..b in names of aaa..", names, query("a" * 254 + "b"), usual)
-    row("the same, of 3,000 bytes", names, query("a" * 2_999 + "b"), usual)
-    line = "/* é */ ".encode() + numbered(b"f#(){}", 720_000) + b"\n"
-    usual = row("server: 1,000 symbols", numbered(b"int f#(void) {\n}\n", len(line)), query("f"))
-    row("on one line, after an é", line, query("f"), usual)
-    row("on one line, before an é", line[9:-1] + line[:9] + b"\n", query("f"), usual)
+    usual = row("server: ab in names of aaa..", names, query("ab"))
+    row("aaa..b of 255 bytes", names, query("a" * 254 + "b"), usual)
+    row("aaa..b of 3,000 bytes", names, query("a" * 2_999 + "b"), usual)
+    # the first ones by name stand last
+    functions = [b"int f%06d(void) {}" % number for number in reversed(range(40_000))]
+    usual = row("server: 1,000 symbols", b"\n".join(functions) + b"\n", query("f"))
+    line, mark = b" ".join(functions), "/* é */".encode()
+    row("on one line", line + b"\n", query("f"), usual)
+    row("on one line, after an é", mark + line + b"\n", query("f"), usual)
+    row("on one line, before an é", line + mark + b"\n", query("f"), usual)
     text = lines(code(), 950_000)
     usual = row("server: a whole text of 950,000", text, whole)
     row("one part at its end", text, parts(1), usual)
@@ -189,8 +193,7 @@ def put_served(cbrowse, folder):
         named = " ".join(("server: opened, folded", *profile))
         usual = row(named, lines(code(), 990_000), opened, profile=profile)
         row("nested braces", again(b"{", 990_000), opened, usual, profile)
-        closed = b"f(){" + b"{" * 490_000 + b"}" * 490_000 + b"}\n"
-        row("nested braces that are closed", closed, opened, usual, profile)
+        row("nested braces that are closed", CLOSED_BRACES, opened, usual, profile)
 
 
 # ---- rows
@@ -221,8 +224,7 @@ def main():
         wide = measured([lines(code(), MOST_BYTES)], profile=("--wide",))
         put("ordinary code --wide", wide)
         put("{ --wide", measured([again(b"{")], profile=("--wide",)), wide)
-        closed = b"f(){" + b"{" * 490_000 + b"}" * 490_000 + b"}\n"
-        put("{..} --wide", measured([closed], profile=("--wide",)), wide)
+        put("{..} --wide", measured([CLOSED_BRACES], profile=("--wide",)), wide)
         line = b"int a;\nvoid f(void) {" + again(b" a;", 300_000) + b"}\n"
         put(
             "100,000 uses of a name on a line",

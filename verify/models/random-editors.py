@@ -133,6 +133,8 @@ class Editor:
             self.bounds = Bounds(self.one(1, 2, 3), self.one(20, 200, 2_000))
         # where files are read again the root is a folder of its own
         self.home = home if self.chance(0.4) else None
+        # renames then find closed files as the server has them
+        self.stays_closed = self.home is not None and self.chance(0.4)
         names = self.random.sample(NAMES, self.one(0, 1, 2, 3, 5, 8))
         if self.home is None and self.chance(0.1):
             names.insert(0, STEPPING)
@@ -145,9 +147,11 @@ class Editor:
         self.disk: dict[bytes, Optional[bytes]] = {}
         if self.home is not None:
             self.folder = self.home if self.chance(0.5) else None
-            for name in self.random.sample(NAMES, self.one(0, 3, 6, 9)):
+            there = self.random.sample(NAMES, self.one(0, 3, 6, 9))
+            for name in [*self.files] if self.stays_closed else there:
                 path = f"{home}/{name}".encode()
-                text = self.files.get(name) if self.chance(0.5) else self.text()
+                is_same = self.stays_closed or self.chance(0.5)
+                text = self.files.get(name) if is_same else self.text()
                 more = b"x" * (self.bounds.file_bytes + 1)
                 self.disk[path] = self.one(*[text] * 20, more, None)
         folder = self.folder and self.folder.encode()
@@ -176,7 +180,7 @@ class Editor:
             place = self.random.randint(0, len(text))
             more = self.one(*BAD) if self.chance(0.2) else self.one(*ODD).encode()
             text = text[:place] + more + text[place:]
-        return MARK + text if self.chance(0.05) else text
+        return MARK + text if self.chance(0.1) else text
 
     def sent_text(self) -> str:
         """A text in a message. What is no UTF-8 stands as such or as the bytes that it is."""
@@ -372,12 +376,13 @@ class Editor:
         return self.notice("textDocument/didOpen", {"textDocument": document})
 
     def rename(self) -> dict:
-        """A request that renames, or what leads to it: the files are opened before, but for most of
-        those that an editor has as the server does."""
-        if not self.is_renaming and self.server.world.files and self.chance(0.6):
+        """A request that renames, or what leads to it: most files that cannot be edited yet are
+        opened before, and a few others."""
+        may_open = self.chance(0.1 if self.stays_closed else 0.6)
+        if not self.is_renaming and self.server.world.files and may_open:
             self.is_renaming = True
             for name in self.server.world.files:
-                if not self.server.may_edit(name) or self.chance(0.2):
+                if self.chance(0.2 if self.server.may_edit(name) else 0.9):
                     self.next.append(self.opened(name))
             if self.next:
                 return self.next.pop(0)
@@ -501,14 +506,14 @@ class Editor:
         if phase == "fresh" and self.chance(0.8):
             return self.encoded(self.initialize())
         weights = {
-            self.open: 6,
+            self.open: 0.5 if self.stays_closed else 6,
             self.change: 8 if self.server.documents else 1,
             self.save: 2,
             self.close: 2 if self.server.documents else 0.3,
             self.watched: 4 if self.disk else 1,
             self.at_place: 14,
             self.references: 6,
-            self.rename: 4,
+            self.rename: 20 if self.stays_closed else 4,
             self.symbols: 5,
             self.all_symbols: 4,
             self.calls: 4,
