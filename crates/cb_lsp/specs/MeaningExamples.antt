@@ -1,5 +1,6 @@
 -- What names mean in files, computed. The expected values are worked out by hand.
-use Rattle.std.specs.Prelude.{◌≡◌, ℕ, Bool, true, false, List, [], ◌∷◌, codes, None, Some, refl}
+use Rattle.std.specs.Prelude.{◌≡◌, ℕ, Bool, true, false, List, [], ◌∷◌, codes, map, None, Some}
+use Rattle.std.specs.Prelude.{refl}
 use Rattle.cb_desk.specs.World.{empty_world, standard_bounds, text_of_file}
 use Rattle.cb_index.specs.Rows.{Fact}
 use Rattle.cb_scan.specs.declared.facts.Kind.{Kind}
@@ -12,6 +13,7 @@ use Rattle.cb_lsp.specs.Clients.{Client}
 use Rattle.cb_lsp.specs.Meaning.{is_private, meaning}
 use Rattle.cb_lsp.specs.Documents.{Document, Looked, Oracle, Reading, Work, document_of, gone}
 use Rattle.cb_lsp.specs.Documents.{holds, no_room, present}
+use Rattle.cb_lsp.specs.Names.{is_outside}
 use Rattle.cb_lsp.specs.References.{references}
 use Rattle.cb_lsp.specs.Renames.{checks, files_of, no_memory, not_open, uses_in}
 use Rattle.cb_lsp.specs.Searches.{is_like}
@@ -192,6 +194,12 @@ pub one_is_outside : checks (finding gone gone) client work (codes "/v/e.c" ∷ 
     ≡ record { why = Some (not_open (codes "/v/e.c")); read = [] }
 unfolding checks
 one_is_outside = refl
+
+-- so it is with a name that another one stands for, or that leads out of the root
+pub names_are_outside : map is_outside (codes "/w/c.c" ∷ codes "./c.c" ∷ codes "x//c.c"
+    ∷ codes "x/../c.c" ∷ codes "../c.c" ∷ codes "x/c.c" ∷ codes "..x/.c.c" ∷ [])
+    ≡ true ∷ true ∷ true ∷ true ∷ true ∷ false ∷ false ∷ []
+names_are_outside = refl
 
 -- nothing is read behind a file that is not edited
 pub one_is_gone : checks (finding gone (holds (codes "22"))) client work open_and_closed ≡ record {

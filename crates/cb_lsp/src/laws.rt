@@ -20,11 +20,11 @@ ghost use Rattle.cb_lsp.specs.Sync.{DocumentsStayInSync, RequestsChangeNothing};
 ghost use Rattle.cb_lsp.specs.Sync.{WhatIsToldChangedNothing, WhatIsToldOfEventsChangedNothing};
 ghost use Rattle.cb_lsp.specs.Words.{word_at};
 
-/// After any messages for which memory was not refused, whatever is found where files are read
-/// again, each document that is open has the text that its client has, unless its last text was
-/// refused and the client was told so. The client may hold bytes; or it is an editor that holds
-/// units, finds positions by walking them, and puts units in the place of units, where its texts are
-/// in UTF-8 and have no carriage return alone.
+/// After any messages, whatever memory is refused and whatever is found where files are read again,
+/// each document that is open and not out of date has the text that its client has. A body that is
+/// dropped counts as sent. The client may hold bytes; or it is an editor that holds units, finds
+/// positions by walking them, and puts units in the place of units, where its texts are in UTF-8 and
+/// have no carriage return alone.
 pub fn documents_stay_in_sync()
     ensures bytes { DocumentsStayInSync }
     ensures units { EditorsStayInSync }

@@ -15,7 +15,7 @@ ghost use Rattle.cb_lsp.specs.Answers.{answer_reply, reply_with};
 ghost use Rattle.cb_lsp.specs.Bodies.{Replies};
 ghost use Rattle.cb_lsp.specs.Documents.{Oracle, Reading, document_of, was_lost};
 ghost use Rattle.cb_lsp.specs.Models.{found_in};
-ghost use Rattle.cb_lsp.specs.Names.{is_outside};
+ghost use Rattle.cb_lsp.specs.Names.{is_outside, leads_down};
 ghost use Rattle.cb_lsp.specs.Renames.{all_edits, check, checks, files_of, is_some_use};
 ghost use Rattle.cb_lsp.specs.Renames.{renamable_at, renamed_all, renamed_uses, renamed_word};
 ghost use Rattle.cb_lsp.specs.Renames.{unless_found, unless_lost};
@@ -128,11 +128,20 @@ fn put_unedited<W: Write>(
     }
 }
 
-/// Whether the file of a name is outside the root.
+/// Whether a segment of a name leads further down.
+fn leads_down(segment: &[u8]) -> bool
+    ensures { result ≡ leads_down segment.now }
+{
+    !(segment == b"".as_slice() || segment == b".".as_slice()) && !(segment == b"..".as_slice())
+}
+
+/// Whether a name is not the one that a file below the root has.
 fn is_outside(name: &[u8]) -> bool
     ensures { result ≡ is_outside name.now }
 {
-    matches!(name, [b'/', ..])
+    !name
+        .split(|byte| *byte == b'/')
+        .all(|segment| leads_down(segment))
 }
 
 /// Whether a name has a use.
