@@ -883,7 +883,7 @@ class Server:
     def may_edit(self, file):
         """Whether an editor makes the edits of a file where they belong: the file is below the
         root, and it is open and not lost, or has on disk a text that all editors count alike."""
-        if file.startswith(b"/"):
+        if any(segment in (b"", b".", b"..") for segment in file.split(b"/")):
             return False
         if file in self.documents:
             return not self.documents[file].is_lost
