@@ -23,10 +23,10 @@ use Rattle.cb_lsp.specs.Bodies.{written_text}
 use Rattle.cb_lsp.specs.Bodies.{DoesBy}
 
 -- nothing is decided; and what is decided for an event, before what is decided for more
-abbrev quiet : Oracle
+abbrev pub quiet : Oracle
 quiet = record { refusals = []; found = [] }
 
-abbrev first_of_all : (m n : Bool) → Reading → Oracle → Oracle
+abbrev pub first_of_all : (m n : Bool) → Reading → Oracle → Oracle
 first_of_all m n f more = record { refusals = m ∷ n ∷ more.refusals; found = f ∷ more.found }
 
 -- that is what is decided for the first event
@@ -66,7 +66,7 @@ all-first m n f more s event left =
 abbrev pub so : Serving → List Json → List Looked → Outcome
 so s written read = record { server = s; written = written; read = read }
 
-and-then-more : (s : Serving) (written : List Json) (read : List Looked) (o last : Outcome)
+pub and-then-more : (s : Serving) (written : List Json) (read : List Looked) (o last : Outcome)
     → and_then (so s written read) (and_then o last)
     ≡ and_then (so o.server (written ++ o.written) (read ++ o.read)) last
 and-then-more s written read o last = λ i.
@@ -91,7 +91,7 @@ pub so-begun : (finds : Looked → Type 0) (s : Serving) (w : Writer) (events : 
     → HappenedSo finds s s w w events events
 so-begun finds s w events = ([], [], PutsAll-none w, tt, λ more. (more, refl))
 
-text-after : (written : List Json) (o : Outcome)
+pub text-after : (written : List Json) (o : Outcome)
     → written_text written ++ written_text o.written ≡ written_text (written ++ o.written)
 text-after written o = sym (flat_map-append (λ j. frame (value_text j)) written o.written)
 

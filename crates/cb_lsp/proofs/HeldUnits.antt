@@ -21,9 +21,9 @@ use Rattle.cb_lsp.specs.declared.server.Stage.{Stage}
 use Rattle.cb_lsp.specs.declared.server.Stage.TheVariants.{Fresh, Running, Down}
 use Rattle.cb_lsp.specs.Documents.{Oracle, first_refusal}
 use Rattle.cb_lsp.specs.Editors.{BringsText, EditorsStayInSync, HasTexts, TellsTexts, in_units}
-use Rattle.cb_lsp.specs.Messages.{Message, Serving, asked_reply, does, encoding_for, fresh_server}
+use Rattle.cb_lsp.specs.Messages.{Message, Serving, answered, does, encoding_for, fresh_server}
 use Rattle.cb_lsp.specs.Messages.{initialized, not_json, not_request, notice_of, notification}
-use Rattle.cb_lsp.specs.Messages.{noticed_by, noticed_if, replied, replies, reply, request}
+use Rattle.cb_lsp.specs.Messages.{noticed_by, noticed_if, replies, reply, request}
 use Rattle.cb_lsp.specs.Messages.{requested}
 use Rattle.cb_lsp.specs.Messages.{too_large}
 use Rattle.cb_lsp.specs.Params.{changes_in, document_text, uri_in}
@@ -34,7 +34,7 @@ use Rattle.cb_lsp.specs.Sync.{nothing_sent}
 use Rattle.cb_lsp.specs.Sync.{sent_after, sent_at, sent_if, sent_in_all, sent_of, text_after}
 use Rattle.cb_lsp.specs.Sync.{text_changed, text_opened}
 use Rattle.cb_lsp.proofs.Editors.{AreSame, held-units, same, through-same}
-use Rattle.cb_lsp.proofs.KeptClients.{notice-keeps}
+use Rattle.cb_lsp.proofs.KeptClients.{Keeps, answered-keeps, notice-keeps}
 use Rattle.cb_lsp.proofs.Synced.{documents_stay_in_sync}
 
 -- ---- a document
@@ -128,6 +128,11 @@ module _ (s : Serving) (sent held : Sent) (all : AreHeld s sent held) (id : Json
     abbrev StillHeld : Serving → Type 0
     StillHeld t = AreHeld t sent held
 
+    kept : (t : Serving) → Keeps s t → StillHeld t
+    kept t keeps =
+        subst (λ stage. Held stage t.client.encoding sent held) (sym keeps.stage)
+        (subst (λ (c : Client). Held s.stage c.encoding sent held) (sym keeps.client) all)
+
     begins : (no_memory : Bool) → Held Fresh s.client.encoding sent held
         → StillHeld (initialized no_memory s id params).server
     begins true h = all
@@ -144,12 +149,13 @@ module _ (s : Serving) (sent held : Sent) (all : AreHeld s sent held) (id : Json
     asks Running o h =
         let again = replies s (error_reply id InvalidRequest (codes "initialized already")) in
         let down = replies (record s { stage = Down }) (result_reply id null) in
-        let answer = replied s (asked_reply o s id (asked_by method params)) in
+        let answer = answered o s id (asked_by method params) in
         elim (bytes_eq method (codes "initialize")) as (λ b.
         StillHeld (cond b again (cond (bytes_eq method (codes "shutdown")) down answer)).server) [
           | true ↦ all
           | false ↦ elim (bytes_eq method (codes "shutdown")) as
-              (λ b. StillHeld (cond b down answer).server) [ true ↦ h | false ↦ all ]
+              (λ b. StillHeld (cond b down answer).server)
+              [ true ↦ h | false ↦ kept answer.server (answered-keeps o s id (asked_by method params)) ]
         ]
     asks Down o h = all
 

@@ -1,6 +1,6 @@
 -- A notification changes nothing of what a server knows of its client.
 use Rattle.std.proofs.Common.{◌≡◌, ◌∙◌, refl, List, ℕ, ◌&&◌, Bool, true, false, cond, codes}
-use Rattle.std.proofs.Common.{Option, None, Some}
+use Rattle.std.proofs.Common.{Option, None, Some, Result, []}
 use Rattle.json.specs.Find.{get}
 use Rattle.json.specs.Json.{Json, Items, no_items, item}
 use Rattle.cb_lsp.specs.Names.{is_document_name}
@@ -11,12 +11,17 @@ use Rattle.cb_lsp.specs.declared.notice.Notice.{Notice}
 use Rattle.cb_lsp.specs.declared.notice.Notice.TheVariants.{Ready, Open, Change, Save, Close}
 use Rattle.cb_lsp.specs.declared.notice.Notice.TheVariants.{Files}
 use Rattle.cb_lsp.specs.Documents.{Oracle, behind_event, first_found, first_refusal, later}
+use Rattle.cb_lsp.specs.Documents.{later_refusals}
 use Rattle.cb_lsp.specs.Messages.{Serving, all_happened, bad_name, dropped, ends_as_c, happened}
 use Rattle.cb_lsp.specs.Messages.{happened_as}
 use Rattle.cb_lsp.specs.Messages.{happened_at, happened_in, happened_to, is_opening, moved}
 use Rattle.cb_lsp.specs.Messages.{read_behind}
 use Rattle.cb_lsp.specs.Messages.{noticed_as, noticed_if, noticed_of, noticed_on}
+use Rattle.cb_lsp.specs.Messages.{answered, out_of_memory, refreshed, refreshed_from}
 use Rattle.cb_lsp.specs.Messages.{registers, replies, show_of, stays, told_of, unread}
+use Rattle.cb_lsp.specs.Questions.{Asked}
+use Rattle.cb_lsp.specs.declared.question.Unasked.{Unasked}
+use Rattle.cb_lsp.proofs.Refreshed.{answer-keeps}
 use Rattle.cb_lsp.specs.Params.{event_of, items_in, member_of, text_in, uri_in}
 
 pub record Keeps (s t : Serving) : Type 0 where
@@ -25,6 +30,27 @@ pub record Keeps (s t : Serving) : Type 0 where
 
 as-is : (s : Serving) → Keeps s s
 as-is s = record { stage = refl; client = refl }
+
+-- ---- a file that is read again
+
+refreshed-keeps : (o : Oracle) (s : Serving) (name : List ℕ) → Keeps s (refreshed o s name).server
+refreshed-keeps o s name =
+    let no_path = moved s name [] (record { work = s.work; told = Some out_of_memory }) in
+    let anew = refreshed_from (first_found o.found) (first_refusal (later_refusals o.refusals)) s name
+    in
+    elim (is_open s.work.documents name) as (λ b. Keeps s (cond b (stays s)
+    (cond (first_refusal o.refusals) no_path anew)).server) [
+      | true ↦ as-is s
+      | false ↦ elim (first_refusal o.refusals) as (λ b. Keeps s (cond b no_path anew).server)
+          [ true ↦ record { stage = refl; client = refl } | false ↦ record { stage = refl; client = refl } ]
+    ]
+
+pub answered-keeps : (o : Oracle) (s : Serving) (id : Json) (asked : Result Asked Unasked)
+    → Keeps s (answered o s id asked).server
+answered-keeps o s id asked =
+    answer-keeps (Keeps s) (λ o t name so.
+    let next = refreshed-keeps o t name in
+    record { stage = next.stage ∙ so.stage; client = next.client ∙ so.client }) o s id asked (as-is s)
 
 -- ---- file events
 

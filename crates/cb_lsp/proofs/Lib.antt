@@ -38,6 +38,7 @@ pub mod Opened
 pub mod Outgoings
 pub mod Ranged
 pub mod Reaches
+pub mod Refreshed
 pub mod RenameSteps
 pub mod Requests
 pub mod SameLines

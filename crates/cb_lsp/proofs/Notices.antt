@@ -117,12 +117,12 @@ pub renewed-told : {A E : Type 0} (finds : Looked → Type 0) (m : Bool) (f : Re
     → is_renewed held.work (may_enter path name) name ≡ true
     → record { work = work; told = told } ≡ given_found f m held.work name None
     → Puts old new r (written_text (show_if name told))
-    → finds (looked_at held.work.world path f)
+    → finds (looked_by (not (has_file held.work.world.files name)) held.work.world path f)
     → DoesBy finds (happened_at Written (one_change m f) s (Some path))
     (record held { work = work }) old new r
 renewed-told finds m f held s path name work told old new r same is renews tells put found =
     let o = one_change m f in
-    let looked = looked_at held.work.world path f ∷ [] in
+    let looked = looked_by (not (has_file held.work.world.files name)) held.work.world path f ∷ [] in
     let read : looked ≡ read_renewed f held.work (may_enter path name) path name =
     ap (λ b. if b then looked else []) (sym renews) in
     let chosen : given_found f m held.work name None
@@ -141,11 +141,17 @@ renewed-told finds m f held s path name work told old new r same is renews tells
     new r meant ((on-ok r refl, put), on-ok r (found, tt)))
 
 -- what is read is looked at
-pub looked-so : (finds : Looked → Type 0) (w : World) (b : WorldBounds) (path at : List ℕ)
-    (most : ℕ) (f : Reading) → at ≡ path → most ≡ most_read b → b ≡ w.bounds
-    → finds (record { path = at; most = most; found = f }) → finds (looked_at w path f)
-looked-so finds w b path at most f same is held found =
-    subst finds (λ i. record { path = same i; most = (is ∙ ap most_read held) i; found = f }) found
+pub looked-so : (finds : Looked → Type 0) (alone : Bool) (w : World) (b : WorldBounds)
+    (path at : List ℕ) (most : ℕ) (f : Reading) → at ≡ path → most ≡ most_read b → b ≡ w.bounds
+    → finds (record { path = at; most = most; alone = alone; found = f })
+    → finds (looked_by alone w path f)
+looked-so finds alone w b path at most f same is held found =
+    subst finds (λ i. record {
+      path = same i;
+      most = (is ∙ ap most_read held) i;
+      alone = alone;
+      found = f;
+    }) found
 
 pub noticed-none : (n : Notice) (s : Serving) (params : Option Json) → None ≡ uri_in params
     → stays s ≡ noticed_of n quiet s params (uri_in params)

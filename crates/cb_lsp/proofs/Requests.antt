@@ -10,8 +10,7 @@ use Rattle.cb_lsp.specs.declared.question.Unasked.{Unasked}
 use Rattle.cb_lsp.specs.declared.server.Stage.{Stage}
 use Rattle.cb_lsp.specs.declared.server.Stage.TheVariants.{Fresh, Down}
 use Rattle.cb_lsp.specs.Documents.{Oracle}
-use Rattle.cb_lsp.specs.Messages.{Serving, asked_reply, initialized, replied, replies, requested}
-use Rattle.cb_lsp.specs.Messages.{running}
+use Rattle.cb_lsp.specs.Messages.{Serving, answered, initialized, replies, requested, running}
 use Rattle.cb_lsp.specs.Messages.{unasked_reply}
 use Rattle.cb_lsp.specs.Questions.{Asked, asked_by}
 use Rattle.cb_lsp.specs.steps.Works.{only}
@@ -38,7 +37,7 @@ pub running-asked : (o : Oracle) (s : Serving) (id : Json) (method : List ℕ)
     (params : Option Json) (asked : Asked)
     → bytes_eq method (codes "initialize") ≡ false → bytes_eq method (codes "shutdown") ≡ false
     → Ok asked ≡ asked_by method params
-    → replied s (asked_reply o s id (Ok asked)) ≡ running o s id method params
+    → answered o s id (Ok asked) ≡ running o s id method params
 running-asked o s id method params asked other up is = rw (other, up, ← is)
 
 -- nothing is read where a client says what it takes

@@ -56,7 +56,8 @@ use Rattle.cb_lsp.specs.Sync.{text_opened, text_through}
 use Rattle.cb_lsp.specs.Sync.{with_text}
 use Rattle.cb_lsp.proofs.Changes.{healed, same-text}
 use Rattle.cb_lsp.proofs.Opened.{closed-document}
-use Rattle.cb_lsp.proofs.Untouched.{requests_change_nothing}
+use Rattle.cb_lsp.proofs.Refreshed.{request-keeps}
+use Rattle.cb_lsp.specs.Refresh.{given_anew}
 
 -- ---- documents of different names
 
@@ -609,6 +610,34 @@ module _ (s : Serving) (sent : Sent) (good : Good s.work sent) where
       let name = name_below s.client.root.path path in
       renews-if s.work sent good o (may_enter path name) name
 
+  -- a file is read again
+  anew-good : (f : Reading) (m : Bool) (name : List ℕ) → is_open s.work.documents name ≡ false
+      → Good (given_anew f m s.work name).work sent
+  anew-good gone m name h = goes-if s.work sent good m name
+  anew-good unreadable m name h = good
+  anew-good no_room m name h = good
+  anew-good (holds new) m name h =
+      elim (bytes_eq new (text_of_file s.work.world.files name)) as (λ b. Good (cond b
+      (record { work = s.work; told = None }) (given m s.work name (Some new))).work sent) [
+        | true ↦ good
+        | false ↦ renews-to s.work sent good m name (holds new)
+            (closed-document name s.work.documents h)
+      ]
+
+  refreshed-good : (o : Oracle) (name : List ℕ) → Good (refreshed o s name).server.work sent
+  refreshed-good o name =
+      let f = first_found o.found in
+      let m = first_refusal (later_refusals o.refusals) in
+      let no_path = moved s name [] (record { work = s.work; told = Some out_of_memory }) in
+      (elim (is_open s.work.documents name) as (λ b. is_open s.work.documents name ≡ b
+      → Good (cond b (stays s) (cond (first_refusal o.refusals) no_path
+      (refreshed_from f m s name))).server.work sent) [
+        | true ↦ λ h. good
+        | false ↦ λ h. elim (first_refusal o.refusals) as (λ b. Good (cond b no_path
+            (refreshed_from f m s name)).server.work sent)
+            [ true ↦ good | false ↦ anew-good f m name h ]
+      ]) refl
+
   happened-to-good : (kind : FileEvent) (o : Oracle) (uri : Option (List ℕ))
       → Good (happened_to kind o s uri).server.work sent
   happened-to-good kind o None = good
@@ -712,6 +741,11 @@ module _ (o : Oracle) (s : Serving) (sent : Sent) (good : Good s.work sent) wher
   by-good Fresh method params = good
   by-good Down method params = good
 
+  begun-good : (id : Json) (params : Option Json) (no_memory : Bool)
+      → Good (initialized no_memory s id params).server.work sent
+  begun-good id params true = good
+  begun-good id params false = good
+
   message-good : (m : Message) → Good (does o s m).server.work (sent_after in_bytes s sent m)
   unfolding does
   message-good not_json = lost-all-good s.work sent sent good
@@ -720,8 +754,8 @@ module _ (o : Oracle) (s : Serving) (sent : Sent) (good : Good s.work sent) wher
   message-good too_large = lost-all-good s.work sent sent good
   message-good (notification method params) = by-good s.stage method params
   message-good (request id method params) =
-      subst (λ w. Good w sent)
-      (sym (requests_change_nothing o s id method params)) good
+      request-keeps (λ t. Good t.work sent) (λ o t name so. refreshed-good t sent so o name) s id
+      method params good (begun-good id params) good s.stage o
 
 -- a body that was dropped, whatever it was
 dropped-good : (s : Serving) (sent any : Sent) → Good s.work sent → (t : Turn) → IsDropped t

@@ -1,5 +1,5 @@
 -- What is told of a document, and requests, change no file.
-use Rattle.std.proofs.Common.{◌≡◌, refl, ◌&&◌, ◌||◌, not, ℕ, Bool, true, false, cond, List, codes}
+use Rattle.std.proofs.Common.{◌≡◌, ◌∙◌, ap, refl, [], ◌&&◌, ◌||◌, not, ℕ, Bool, true, false, cond, List, codes}
 use Rattle.std.proofs.Common.{Option, None, Some, Result, Ok, Err}
 use Rattle.std.specs.Str.{bytes_eq}
 use Rattle.json.specs.Json.{Json, null}
@@ -9,7 +9,7 @@ use Rattle.cb_wire.specs.Trees.{error_reply, result_reply}
 use Rattle.cb_wire.specs.declared.units.Encoding.{Encoding}
 use Rattle.cb_desk.specs.declared.change.Refusal.{Refusal}
 use Rattle.cb_desk.specs.Step.{unload}
-use Rattle.cb_desk.specs.World.{World, has_file}
+use Rattle.cb_desk.specs.World.{World, has_file, text_of_file}
 use Rattle.cb_lsp.specs.Changes.{TextChange, text_by}
 use Rattle.cb_lsp.specs.declared.notice.Notice.TheVariants.{Ready, Open, Change, Save, Close}
 use Rattle.cb_lsp.specs.declared.notice.Notice.TheVariants.{Files}
@@ -20,12 +20,16 @@ use Rattle.cb_lsp.specs.Documents.{after_step, changed_into, changed_to, documen
 use Rattle.cb_lsp.specs.Documents.{first_refusal, given, given_found, gone, holds, if_open, is_open}
 use Rattle.cb_lsp.specs.Documents.{is_renewed, kept_text, later_refusals, no_room, opened_if}
 use Rattle.cb_lsp.specs.Documents.{saved_as, taken, text_of_document, text_step, unreadable, without}
-use Rattle.cb_lsp.specs.Messages.{Serving, asked_reply, does, initialized, opened_with}
-use Rattle.cb_lsp.specs.Messages.{replied, replies, requested, running}
+use Rattle.cb_lsp.specs.Messages.{Serving, answered, answered_anew, asked_reply, does, initialized}
+use Rattle.cb_lsp.specs.Messages.{moved, opened_with, out_of_memory, refreshed, refreshed_from}
+use Rattle.cb_lsp.specs.Messages.{replied, replies, requested, running, stays}
 use Rattle.cb_lsp.specs.Params.{changes_in, document_text}
-use Rattle.cb_lsp.specs.Questions.{asked_by}
+use Rattle.cb_lsp.specs.Questions.{Asked, asked_by}
+use Rattle.cb_lsp.specs.Refresh.{given_anew}
+use Rattle.cb_lsp.specs.declared.question.Unasked.{Unasked}
 use Rattle.cb_lsp.specs.Sync.{LeavesFiles, RequestsChangeNothing, WhatIsToldChangedNothing}
 use Rattle.cb_lsp.specs.Sync.{WhatIsToldOfEventsChangedNothing}
+use Rattle.cb_lsp.proofs.Refreshed.{request-keeps}
 
 -- ---- what is told
 
@@ -134,36 +138,90 @@ told_of_events_changed_nothing o w may_enter no_memory name = (
 
 -- ---- requests
 
+steps-documents : (w : Work) (r : Result World Refusal)
+    → (after_step w r).work.documents ≡ w.documents
+steps-documents w (Ok u) = refl
+steps-documents w (Err why) = refl
+
+anew-documents : (f : Reading) (no_memory : Bool) (w : Work) (name : List ℕ)
+    → (given_anew f no_memory w name).work.documents ≡ w.documents
+anew-documents gone no_memory w name =
+    let r = taken no_memory w.world (unload name) in
+    elim (is_open w.documents name || not (has_file w.world.files name)) as (λ b.
+    (cond b (record { work = w; told = None }) (after_step w r)).work.documents ≡ w.documents)
+    [ true ↦ refl | false ↦ steps-documents w r ]
+anew-documents unreadable no_memory w name = refl
+anew-documents no_room no_memory w name = refl
+anew-documents (holds new) no_memory w name =
+    let r = taken no_memory w.world (text_step w.world.files name new) in
+    elim (bytes_eq new (text_of_file w.world.files name)) as (λ b.
+    (cond b (record { work = w; told = None }) (after_step w r)).work.documents ≡ w.documents)
+    [ true ↦ refl | false ↦ steps-documents w r ]
+
+-- a file that is read again leaves the documents as they are
+refreshed-documents : (o : Oracle) (s : Serving) (name : List ℕ)
+    → (refreshed o s name).server.work.documents ≡ s.work.documents
+refreshed-documents o s name =
+    let f = first_found o.found in
+    let m = first_refusal (later_refusals o.refusals) in
+    let no_path = moved s name [] (record { work = s.work; told = Some out_of_memory }) in
+    elim (is_open s.work.documents name) as (λ b. (cond b (stays s)
+    (cond (first_refusal o.refusals) no_path (refreshed_from f m s name))).server.work.documents
+    ≡ s.work.documents) [
+      | true ↦ refl
+      | false ↦ elim (first_refusal o.refusals) as (λ b.
+          (cond b no_path (refreshed_from f m s name)).server.work.documents ≡ s.work.documents)
+          [ true ↦ refl | false ↦ anew-documents f m s.work name ]
+    ]
+
 module _ (s : Serving) (id : Json) (method : List ℕ) (params : Option Json) where
   begins : (no_memory : Bool) → (initialized no_memory s id params).server.work ≡ s.work
   begins true = refl
   begins false = refl
 
-  runs : (o : Oracle) → (running o s id method params).server.work ≡ s.work
-  runs o =
+  asks-documents : (stage : Stage) (o : Oracle)
+      → (requested stage o s id method params).server.work.documents ≡ s.work.documents
+  asks-documents stage o =
+      request-keeps (λ t. t.work.documents ≡ s.work.documents)
+      (λ o t name is. refreshed-documents o t name ∙ is) s id method params refl
+      (λ m. ap (λ (w : Work). w.documents) (begins m)) refl stage o
+
+  -- the client tells of files that are written
+  answers : s.watches ≡ true → (o : Oracle) (asked : Result Asked Unasked)
+      → (answered o s id asked).server.work ≡ s.work
+  answers tells o (Err why) = refl
+  answers tells o (Ok asked) =
+      ap (λ b. (cond b (replied s (asked_reply o s id (Ok asked)))
+      (answered_anew o s id asked)).server.work) tells
+
+  runs : s.watches ≡ true → (o : Oracle) → (running o s id method params).server.work ≡ s.work
+  runs tells o =
       let again = replies s (error_reply id InvalidRequest (codes "initialized already")) in
       let down = replies (record s { stage = Down }) (result_reply id null) in
-      let answer = replied s (asked_reply o s id (asked_by method params)) in
+      let answer = answered o s id (asked_by method params) in
       elim (bytes_eq method (codes "initialize")) as (λ b.
       (cond b again (cond (bytes_eq method (codes "shutdown")) down answer)).server.work
       ≡ s.work) [
         | true ↦ refl
         | false ↦ elim (bytes_eq method (codes "shutdown")) as
-            (λ b. (cond b down answer).server.work ≡ s.work) [ true ↦ refl | false ↦ refl ]
+            (λ b. (cond b down answer).server.work ≡ s.work)
+            [ true ↦ refl | false ↦ answers tells o (asked_by method params) ]
       ]
 
-  asks : (stage : Stage) (o : Oracle)
+  asks : s.watches ≡ true → (stage : Stage) (o : Oracle)
       → (requested stage o s id method params).server.work ≡ s.work
-  asks Running o = runs o
-  asks Fresh o =
+  asks tells Running o = runs tells o
+  asks tells Fresh o =
       let no_memory = first_refusal o.refusals in
       let early = replies s (error_reply id ServerNotInitialized (codes "not initialized")) in
       elim (bytes_eq method (codes "initialize")) as
       (λ b. (cond b (initialized no_memory s id params) early).server.work ≡ s.work)
       [ true ↦ begins no_memory | false ↦ refl ]
-  asks Down o = refl
+  asks tells Down o = refl
 
 pub requests_change_nothing : RequestsChangeNothing
 unfolding does
-requests_change_nothing o s id method params =
-    asks s id method params s.stage o
+requests_change_nothing o s id method params = (
+  asks-documents s id method params s.stage o,
+  λ tells. asks s id method params tells s.stage o,
+)

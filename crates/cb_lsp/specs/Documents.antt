@@ -45,19 +45,25 @@ pub data Reading : Type 0 where
   no_room : Reading
   holds : List ℕ → Reading
 
--- a file that was read again: its path, the most bytes that are read of it, and what is found
+-- a file that was read again: its path, the most bytes that are read of it, whether only a file
+-- will do that has no other name, and what is found
 pub record Looked : Type 0 where
   pub path : List ℕ
   pub most : ℕ
+  pub alone : Bool
   pub found : Reading
 
 -- one byte more than a file may have, so that a larger one is seen to be too large
 abbrev pub most_read : WorldBounds → ℕ
 most_read b = b.file_bytes + 1
 
+abbrev pub looked_by : (alone : Bool) → World → (path : List ℕ) → Reading → Looked
+looked_by alone w path found =
+    record { path = path; most = most_read w.bounds; alone = alone; found = found }
+
+-- under any name of it
 abbrev pub looked_at : World → (path : List ℕ) → Reading → Looked
-looked_at w path found =
-    record { path = path; most = most_read w.bounds; found = found }
+looked_at w path found = looked_by false w path found
 
 -- what the machine decides while a message is taken: where memory is refused, and what is found
 -- where files are read again, each in turn

@@ -30,6 +30,7 @@ pub mod Places
 pub mod Questions
 pub mod Ranges
 pub mod References
+pub mod Refresh
 pub mod Renames
 pub mod RequestExamples
 pub mod Runs

@@ -173,7 +173,7 @@ client = record {
 }
 
 abbrev found_at : (path : List ℕ) → Reading → Looked
-found_at path found = record { path = path; most = 1000001; found = found }
+found_at path found = record { path = path; most = 1000001; alone = true; found = found }
 
 -- what is open is edited, and what is not is read
 pub one_is_open : checks (finding gone gone) client work (codes "a.c" ∷ [])

@@ -5,7 +5,7 @@ use Rattle.std.specs.List.{ends_with, flat_map}
 use Rattle.std.specs.Str.{bytes_eq}
 use Rattle.json.specs.Find.{get}
 use Rattle.json.specs.Json.{Json, Items, no_items, item, null}
-use Rattle.cb_desk.specs.World.{World}
+use Rattle.cb_desk.specs.World.{World, has_file}
 use Rattle.cb_wire.specs.declared.units.Encoding.{Encoding}
 use Rattle.cb_wire.specs.declared.units.Encoding.TheVariants.{Utf8, Utf16}
 use Rattle.cb_wire.specs.declared.reply.ErrorCode.TheVariants.{ServerNotInitialized, InvalidRequest}
@@ -14,7 +14,8 @@ use Rattle.cb_wire.specs.declared.reply.ErrorCode.TheVariants.{RequestFailed}
 use Rattle.cb_wire.specs.Trees.{error_reply, notice_tree, result_reply}
 use Rattle.cb_wire.specs.Watchers.{watch_request}
 use Rattle.cb_wire.specs.Welcome.{welcome}
-use Rattle.cb_wire.specs.Uris.{Below, escaped, escaped_path, name_below, of_uri, path_of}
+use Rattle.cb_wire.specs.Uris.{Below, escaped, escaped_path, name_below, of_uri, path_below}
+use Rattle.cb_wire.specs.Uris.{path_of}
 use Rattle.cb_lsp.specs.declared.notice.Notice.{Notice}
 use Rattle.cb_lsp.specs.declared.notice.Notice.TheVariants.{Ready, Open, Change, Save, Close, Files}
 use Rattle.cb_lsp.specs.declared.notice.FileEvent.{FileEvent}
@@ -27,13 +28,14 @@ use Rattle.cb_lsp.specs.Answers.{Replied, answer_to, reply_with}
 use Rattle.cb_lsp.specs.Clients.{Client}
 use Rattle.cb_lsp.specs.Names.{is_document_name}
 use Rattle.cb_lsp.specs.Documents.{Document, Looked, Oracle, Reading, Told, Work, behind_event}
-use Rattle.cb_lsp.specs.Documents.{changed, lost_all, told_unless}
+use Rattle.cb_lsp.specs.Documents.{changed, later_refusals, lost_all, told_unless}
 use Rattle.cb_lsp.specs.Documents.{closed, first_found, first_refusal, is_open, is_renewed, later}
-use Rattle.cb_lsp.specs.Documents.{looked_at, opened, removed, renewed, saved}
+use Rattle.cb_lsp.specs.Documents.{looked_at, looked_by, opened, removed, renewed, saved}
 use Rattle.cb_lsp.specs.Params.{changes_in, document_text, event_of, items_in, member_of}
 use Rattle.cb_lsp.specs.Params.{prepares_renames, root_in, takes_trees, takes_utf8, takes_watchers}
 use Rattle.cb_lsp.specs.Params.{text_in, uri_in}
 use Rattle.cb_lsp.specs.Questions.{Asked, asked_by}
+use Rattle.cb_lsp.specs.Refresh.{files_asked, given_anew}
 
 -- a message that was read
 pub data Message : Type 0 where
@@ -95,6 +97,17 @@ result_unless false id j = result_reply id j
 
 abbrev pub replies : Serving → Json → Outcome
 replies s message = record { server = s; written = message ∷ []; read = [] }
+
+abbrev pub stays : Serving → Outcome
+stays s = record { server = s; written = []; read = [] }
+
+-- the files and documents after a message, what is told of the document of a file, and what was read
+abbrev pub moved : Serving → List ℕ → List Looked → Told → Outcome
+moved s name read t = record {
+  server = record s { work = t.work };
+  written = show_if name t.told;
+  read = read;
+}
 
 -- what comes after an outcome
 abbrev pub and_then : Outcome → Outcome → Outcome
@@ -186,6 +199,38 @@ asked_reply o s id (Ok asked) = reply_to (first_refusal o.refusals) (later o) s 
 abbrev pub replied : Serving → Replied → Outcome
 replied s r = record { server = s; written = r.message ∷ []; read = r.read }
 
+-- a file is read again, unless its document is open; memory may be refused to its path
+abbrev pub refreshed_from : Reading → Bool → Serving → (name : List ℕ) → Outcome
+refreshed_from found no_text s name =
+    moved s name (looked_at s.work.world (path_below s.client.root.path name) found ∷ [])
+    (given_anew found no_text s.work name)
+
+abbrev pub refreshed : Oracle → Serving → (name : List ℕ) → Outcome
+refreshed o s name =
+    if is_open s.work.documents name then stays s
+    else (if first_refusal o.refusals
+    then moved s name [] (record { work = s.work; told = Some out_of_memory })
+    else refreshed_from (first_found o.found) (first_refusal (later_refusals o.refusals)) s name)
+
+-- files are read again, and then a question is answered
+unfoldable pub answered_after : Oracle → Serving → Json → Asked → List (List ℕ) → Outcome
+answered_after o s id asked [] = replied s (asked_reply o s id (Ok asked))
+answered_after o s id asked (name ∷ names) =
+    let first = refreshed o s name in
+    and_then first (answered_after (behind_event o) first.server id asked names)
+
+-- they are, where the client does not tell of files that are written; memory may be refused to
+-- their names
+abbrev pub answered_anew : Oracle → Serving → Json → Asked → Outcome
+answered_anew o s id asked =
+    if first_refusal o.refusals then replies s (out_of_memory_reply id)
+    else answered_after (later o) s id asked (files_asked s.client s.work.world asked)
+
+abbrev pub answered : Oracle → Serving → Json → Result Asked Unasked → Outcome
+answered o s id (Err why) = replies s (unasked_reply id why)
+answered o s id (Ok asked) =
+    if s.watches then replied s (asked_reply o s id (Ok asked)) else answered_anew o s id asked
+
 -- a request to a server that runs
 abbrev pub running : Oracle → Serving → Json → List ℕ → Option Json → Outcome
 running o s id method params =
@@ -193,7 +238,7 @@ running o s id method params =
     then replies s (error_reply id InvalidRequest (codes "initialized already"))
     else (if bytes_eq method (codes "shutdown")
     then replies (record s { stage = Down }) (result_reply id null)
-    else replied s (asked_reply o s id (asked_by method params)))
+    else answered o s id (asked_by method params))
 
 -- a request, by the stage of the client
 abbrev pub requested : Stage → Oracle → Serving → Json → List ℕ → Option Json → Outcome
@@ -206,17 +251,6 @@ requested Down o s id method params =
     replies s (error_reply id InvalidRequest (codes "shut down"))
 
 -- ---- notifications
-
-abbrev pub stays : Serving → Outcome
-stays s = record { server = s; written = []; read = [] }
-
--- the files and documents after it, what is told of the document of a file, and what was read
-abbrev pub moved : Serving → List ℕ → List Looked → Told → Outcome
-moved s name read t = record {
-  server = record s { work = t.work };
-  written = show_if name t.told;
-  read = read;
-}
 
 -- a client that is ready is asked to tell of the C files that are written, where it can
 abbrev pub registers : Serving → Bool → Outcome
@@ -299,11 +333,13 @@ noticed_of notice o s params (Some uri) =
 abbrev pub may_enter : (path name : List ℕ) → Bool
 may_enter path name = is_document_name name && not (bytes_eq name path)
 
--- the file of a path is read again where it is renewed
+-- the file of a path is read again where it is renewed; one that is not there yet is no link, and
+-- has no other name
 abbrev pub read_renewed : Reading → Work → (may_enter : Bool) → (path name : List ℕ)
     → List Looked
 read_renewed found w may_enter path name =
-    if is_renewed w may_enter name then looked_at w.world path found ∷ [] else []
+    if is_renewed w may_enter name
+    then looked_by (not (has_file w.world.files name)) w.world path found ∷ [] else []
 
 abbrev pub happened_at : FileEvent → Oracle → Serving → Option (List ℕ) → Outcome
 happened_at event o s None = stays s

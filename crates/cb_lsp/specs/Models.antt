@@ -15,6 +15,8 @@ use Rattle.cb_lsp.specs.declared.question.Question.{Question}
 use Rattle.cb_lsp.specs.declared.question.Question.TheVariants.{Folds, InFile, Incoming, Outgoing}
 use Rattle.cb_lsp.specs.declared.question.Question.TheVariants.{Rename, WorkspaceSymbols}
 use Rattle.cb_lsp.specs.declared.question.Unasked.{Unasked}
+use Rattle.cb_lsp.specs.declared.refresh.Sought.{Sought as CodeSought}
+use Rattle.cb_lsp.specs.Refresh.{Sought, about}
 use Rattle.cb_wire.specs.declared.message.Message.{Message as CodeMessage}
 use Rattle.cb_wire.specs.declared.message.Message.TheVariants.{NotRequest, Notification, Reply}
 use Rattle.cb_wire.specs.declared.message.Message.TheVariants.{Request}
@@ -65,3 +67,7 @@ message_in NotRequest = not_request
 message_in Reply = reply
 message_in (Notification call) = notification call.method.now (seen call.params)
 message_in (Request id call) = request (id_json id) call.method.now (seen call.params)
+
+-- what is asked about
+abbrev pub sought_of : CodeSought → Sought
+sought_of sought = about (option_map (λ name. name.now) sought.name) sought.uses

@@ -23,7 +23,7 @@ use Rattle.cb_wire.specs.Values.{range_tree}
 use Rattle.cb_lsp.specs.Clients.{Client}
 use Rattle.cb_lsp.specs.Documents.{Document, Looked, Oracle, Reading, Work, behind_reading}
 use Rattle.cb_lsp.specs.Documents.{document_of, first_found, first_refusal, gone, holds, is_open}
-use Rattle.cb_lsp.specs.Documents.{looked_at, no_room, unreadable, was_lost}
+use Rattle.cb_lsp.specs.Documents.{looked_by, no_room, unreadable, was_lost}
 use Rattle.cb_lsp.specs.Alike.{is_counted_alike}
 use Rattle.cb_lsp.specs.Names.{is_outside}
 use Rattle.cb_lsp.specs.Places.{range_of}
@@ -136,13 +136,14 @@ pub record Check : Type 0 where
   pub why : Option Unrenamed
   pub read : List Looked
 
--- one that is read at a path; memory may be refused to the path
+-- one that is read at a path, where it has no other name: an editor would make the edits of both
+-- names in one text. Memory may be refused to the path
 abbrev pub check_read : Oracle → World → (path file : List ℕ) → Check
 check_read o w path file =
     if first_refusal o.refusals then record { why = Some no_memory; read = [] }
     else record {
       why = unless_found file (text_of_file w.files file) (first_found o.found);
-      read = looked_at w path (first_found o.found) ∷ [];
+      read = looked_by true w path (first_found o.found) ∷ [];
     }
 
 abbrev pub check_open : List Document → (file : List ℕ) → Check

@@ -1,5 +1,5 @@
 -- What a client has of the documents that it opened, and that the server has the same.
-use Rattle.std.specs.Prelude.{◌≡◌, ◌⊎◌, ℕ, Bool, false, List, [], ◌∷◌, Option, None, Some}
+use Rattle.std.specs.Prelude.{◌≡◌, ◌⊎◌, ℕ, Bool, true, false, List, [], ◌∷◌, Option, None, Some}
 use Rattle.std.specs.List.{AllByRecursion}
 use Rattle.std.specs.Prelude.{if◌then◌else◌}
 use Rattle.std.specs.Str.{bytes_eq}
@@ -157,7 +157,9 @@ WhatIsToldOfEventsChangedNothing = (o : Oracle) (w : Work) (may_enter no_memory 
     (name : List ℕ) → LeavesFiles w (renewed o w may_enter name)
     × LeavesFiles w (removed no_memory w name)
 
--- a request leaves the files and the documents as they are
+-- a request leaves the documents as they are, and the files, too, where the client tells of those
+-- that are written
 abbrev pub RequestsChangeNothing : Type 0
 RequestsChangeNothing = (o : Oracle) (s : Serving) (id : Json) (method : List ℕ)
-    (params : Option Json) → (does o s (request id method params)).server.work ≡ s.work
+    (params : Option Json) → let next = (does o s (request id method params)).server in
+    (next.work.documents ≡ s.work.documents) × (s.watches ≡ true → next.work ≡ s.work)

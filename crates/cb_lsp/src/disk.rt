@@ -1,5 +1,7 @@
 //! Files that are read again.
 ghost use Rattle.std.specs.Prelude.{◌≡◌, ◌<◌, ◌^◌};
+ghost use Rattle.std.specs.Str.{bytes_eq};
+ghost use Rattle.cb_desk.specs.World.{text_of_file};
 ghost use Rattle.cb_lsp.specs.Documents.{Looked, most_read};
 ghost use Rattle.cb_lsp.specs.Models.{found_in};
 
@@ -21,14 +23,26 @@ pub enum Found {
 
 /// The file system, as a server reads it.
 pub trait Disk {
-    /// A path of which at most so many bytes are read has this finding.
+    /// A path of which at most so many bytes are read, maybe only of a file that has no other name,
+    /// has this finding.
     ghost finds: { Self → Looked → Type 0 };
 
-    /// The first bytes of the file of a path, at most so many.
-    fn read(&self, alloc: Global, path: &[u8], most: u64) -> Found
+    /// The first bytes of the file of a path, at most so many. Where only a file alone will do,
+    /// none is found at a link, and none that has a second name.
+    fn read(&self, alloc: Global, path: &[u8], most: u64, alone: bool) -> Found
         requires { most < 2 ^ 33 }
-        ensures { finds self.now
-            (record { path = path.now; most = most; found = found_in result }) };
+        ensures { finds self.now (record { path = path.now; most = most; alone = alone;
+            found = found_in result }) };
+}
+
+/// Whether a file has a text.
+pub(crate) fn has_text(desk: &Desk, file: &[u8], text: &[u8]) -> bool
+    ensures { result ≡ bytes_eq text.now (text_of_file desk.now.timeline.present.files file.now) }
+{
+    match desk.source(file) {
+        Some(source) => text == source.bytes(),
+        None => text.is_empty(),
+    }
 }
 
 /// One more than the most bytes of a file, so that a larger one is seen to be too large.

@@ -36,8 +36,8 @@ pub fn editors_count_units()
     ensures { EditorsCountUnits }
 {}
 
-/// Where the client is told of a refusal, the files are as they were. A request leaves files and
-/// documents as they are.
+/// Where the client is told of a refusal, the files are as they were. A request leaves the documents
+/// as they are, and the files, too, where the client tells of those that are written.
 pub fn refusals_change_nothing()
     ensures told { WhatIsToldChangedNothing }
     ensures events { WhatIsToldOfEventsChangedNothing }

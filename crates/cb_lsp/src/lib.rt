@@ -32,6 +32,7 @@ mod place;
 mod question;
 mod reach;
 mod references;
+mod refresh;
 mod rename;
 mod run;
 mod server;

@@ -1,7 +1,6 @@
 //! Names that are changed: the edits of their uses.
 ghost use Rattle.std.specs.Prelude.{◌≡◌, Bool, Err, Some, take};
 ghost use Rattle.std.specs.Option.{option_map};
-ghost use Rattle.std.specs.Str.{bytes_eq};
 ghost use Rattle.cb_desk.specs.World.{text_of_file};
 ghost use Rattle.cb_index.specs.Rows.{uses_of};
 ghost use Rattle.cb_scan.specs.Profiles.{facts_in};
@@ -27,7 +26,7 @@ ghost use Rattle.cb_lsp.specs.steps.Works.{one_change};
 
 use crate::alike::is_counted_alike;
 use crate::answers::FileAsked;
-use crate::disk::{Disk, Found, most_read};
+use crate::disk::{Disk, Found, has_text, most_read};
 use crate::documents::Documents;
 use crate::location::Located;
 use crate::place::bytes_of;
@@ -180,16 +179,6 @@ impl<'a> Renaming<'a> {
         )
     }
 
-    /// Whether a file has a text.
-    fn has_text(&self, file: &[u8], text: &[u8]) -> bool
-        ensures { result ≡ bytes_eq text.now (text_of_file (work_in self.now).world.files file.now) }
-    {
-        match self.asked.desk.source(file) {
-            Some(source) => text == source.bytes(),
-            None => text.is_empty(),
-        }
-    }
-
     /// Why a file that is not open is not edited, by what is found of it.
     fn unless_found(&self, file: &'a [u8], found: Found) -> Option<Unedited<'a>>
         ensures { option_map reason_of result ≡ unless_found file.entry.now
@@ -197,7 +186,8 @@ impl<'a> Renaming<'a> {
     {
         match found {
             Found::Holds(text) => {
-                if self.has_text(file, text.as_slice()) && is_counted_alike(text.as_slice()) {
+                let same = has_text(self.asked.desk, file, text.as_slice());
+                if same && is_counted_alike(text.as_slice()) {
                     None
                 } else {
                     Some(Unedited::NotOpen(file))
@@ -239,7 +229,7 @@ impl<'a> Renaming<'a> {
             Err(_) => return Some(Unedited::NoMemory),
         };
         let most = most_read(self.asked.desk);
-        let found = disk.read(alloc, path.as_slice(), most);
+        let found = disk.read(alloc, path.as_slice(), most, true);
         self.unless_found(file, found)
     }
 

@@ -1,24 +1,27 @@
 //! The files of a server, and the documents that the editor has open.
 ghost use Rattle.std.specs.Prelude.{◌≡◌, ◌<◌, ◌≤◌, Bool, true, List, [], ◌∷◌, length, ◌⊎◌, IfErr};
-ghost use Rattle.std.specs.Prelude.{IfOk, Some};
+ghost use Rattle.std.specs.Prelude.{IfOk, Some, not};
 ghost use Rattle.std.specs.Option.{option_copied, option_map};
 ghost use Rattle.json.specs.Value.{items_view};
 ghost use Rattle.cb_tags.specs.Names.{is_file_name};
 ghost use Rattle.cb_desk.specs.Models.{step_of};
+ghost use Rattle.cb_desk.specs.World.{has_file};
 ghost use Rattle.cb_lsp.specs.Documents.{changed, closed, document_of, given, given_found, is_open};
-ghost use Rattle.cb_lsp.specs.Documents.{is_renewed, lost_all, opened, removed, saved, taken};
+ghost use Rattle.cb_lsp.specs.Documents.{holds, is_renewed, lost_all, opened, removed, saved};
+ghost use Rattle.cb_lsp.specs.Documents.{taken};
 ghost use Rattle.cb_lsp.specs.Documents.{text_step};
 ghost use Rattle.cb_lsp.specs.Documents.{told_unless, was_lost};
 ghost use Rattle.cb_lsp.specs.Messages.{told_of};
 ghost use Rattle.cb_lsp.specs.Models.{found_in, kept_in};
 ghost use Rattle.cb_lsp.specs.Params.{changes_among};
+ghost use Rattle.cb_lsp.specs.Refresh.{given_anew};
 ghost use Rattle.cb_lsp.specs.steps.Noted.{with_noted};
 ghost use Rattle.cb_lsp.specs.steps.Values.{seen};
 ghost use Rattle.cb_lsp.specs.steps.Works.{Becomes, Reloads, changed_named, kept_before};
 ghost use Rattle.cb_lsp.specs.steps.Works.{one_change, text_at};
 
 use crate::change::text_by;
-use crate::disk::Found;
+use crate::disk::{Found, has_text};
 use crate::documents::{Documents, Kept, copy_of, told_unless};
 use crate::notice::Notice;
 use crate::params;
@@ -338,6 +341,13 @@ impl Workspace {
         !self.documents.is_open(name) && (self.desk.source(name).is_some() || may_enter)
     }
 
+    /// Whether there is no file of this name yet.
+    pub(crate) fn is_new(&self, name: &[u8]) -> bool
+        ensures { result ≡ not (has_file self.now.world.files name.now) }
+    {
+        self.desk.source(name).is_none()
+    }
+
     /// Takes a file away that is gone, unless its document is open; what the client is told.
     pub(crate) fn remove(&mut self, alloc: Global, name: &[u8]) -> Option<&'static str>
         ensures { (no_memory : Bool) × (record { work = self.new; told = option_copied result }
@@ -349,6 +359,37 @@ impl Workspace {
         match self.make(alloc, Change::Unload(name)) {
             Ok(()) => None,
             Err(refusal) => Some(refusal.text()),
+        }
+    }
+
+    /// Gives a file the text that is found, unless it has it; what the client is told.
+    fn give_other(&mut self, alloc: Global, name: &[u8], text: Vec<u8>) -> Option<&'static str>
+        ensures { (no_text : Bool) × (record { work = self.new; told = option_copied result }
+            ≡ given_anew (holds text.items) no_text self.old name.now) }
+    {
+        if has_text(&self.desk, name, text.as_slice()) {
+            None
+        } else {
+            self.give(alloc, name, Some(text))
+        }
+    }
+
+    /// Gives a file what is found where it is read again, and takes it away where that is nothing;
+    /// what the client is told.
+    pub(crate) fn give_anew(
+        &mut self,
+        alloc: Global,
+        name: &[u8],
+        found: Found,
+    ) -> Option<&'static str>
+        ensures { (no_memory : Bool) × (record { work = self.new; told = option_copied result }
+            ≡ given_anew (found_in found) no_memory self.old name.now) }
+    {
+        match found {
+            Found::Gone => self.remove(alloc, name),
+            Found::Unreadable => self.give_found(alloc, name, Found::Unreadable, None),
+            Found::NoRoom => self.give_found(alloc, name, Found::NoRoom, None),
+            Found::Holds(text) => self.give_other(alloc, name, text),
         }
     }
 

@@ -113,6 +113,16 @@ below root path =
 abbrev pub name_below : List ℕ → List ℕ → List ℕ
 name_below root path = unwrap_or (below root path) path
 
+-- the name of the file of a path in one form: below a root, if there is one
+abbrev pub name_in : (root : Option (List ℕ)) → List ℕ → List ℕ
+name_in None path = path
+name_in (Some root) path = name_below root path
+
+-- the name of the file of a path that is given; one that begins with no slash is a name already
+abbrev pub given_name : (root : Option (List ℕ)) → List ℕ → List ℕ
+given_name root path =
+    cond (begins_with_slash path) (name_in root (one_form path)) (drop 1 (one_form path))
+
 -- whatever follows a slash after the root's URI, its path follows one after the root's path
 abbrev pub IsRoot : Below → Type 0
 IsRoot root =

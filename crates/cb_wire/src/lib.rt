@@ -40,7 +40,7 @@ pub use reply::{
     ErrorCode, put_error, put_log, put_range_result, put_result, put_result_end, put_result_head,
     put_show,
 };
-pub use root::Root;
+pub use root::{Root, given_name};
 pub use surrogates::with_whole_pairs;
 pub use symbol::{Symbol, TreeSymbol};
 pub use units::{Encoding, column_of_place, place_of_column};

@@ -1,9 +1,10 @@
 //! The folder that names are relative to.
-ghost use Rattle.std.specs.Prelude.{◌≡◌, ◌++◌, ◌-◌, ◌≤◌, ◌<◌, ◌^◌, IfOk, length};
+ghost use Rattle.std.specs.Prelude.{◌≡◌, ◌++◌, ◌-◌, ◌≤◌, ◌<◌, ◌^◌, IfOk, drop, length};
 ghost use Rattle.std.specs.Option.{option_map};
 ghost use Rattle.cb_tags.specs.Writing.{Puts};
 ghost use Rattle.json.specs.Print.{escape};
-ghost use Rattle.cb_wire.specs.Uris.{name_below, escaped, escaped_path, of_folder, of_uri};
+ghost use Rattle.cb_wire.specs.Uris.{name_below, escaped, escaped_path, given_name, name_in};
+ghost use Rattle.cb_wire.specs.Uris.{of_folder, of_uri};
 ghost use Rattle.cb_wire.specs.Uris.{path_below, uri_of, without_slashes};
 
 use crate::part::{json_length, put_json, put_sized};
@@ -37,6 +38,42 @@ impl Model for Root {
 
     ghost invariant = { λ root.
         (root.inside ≡ length (escape root.uri.items)) × (root.inside < 2 ^ 67) };
+}
+
+/// A text without its first byte.
+fn without_first(text: &[u8]) -> &[u8]
+    ensures { result.now ≡ drop 1 text.now }
+{
+    match text {
+        [_, rest @ ..] => rest,
+        [] => text,
+    }
+}
+
+/// The name of the file of a path in one form: below a root, if there is one.
+fn name_in<'a>(root: Option<&Root>, path: &'a [u8]) -> &'a [u8]
+    ensures { result.now ≡ name_in (option_map (λ r. r.now.path) root.entry) path.now }
+{
+    match root {
+        Some(root) => root.name(path),
+        None => path,
+    }
+}
+
+/// The name of the file of a path that is given: no segment of it is empty or a dot, and it is below
+/// the root, if there is one and the path begins with it. One that begins with no slash is a name
+/// already.
+pub fn given_name(alloc: Global, root: Option<&Root>, path: &[u8]) -> Result<Vec<u8>, AllocError>
+    ensures { IfOk result (λ name.
+        name.items ≡ given_name (option_map (λ r. r.now.path) root.entry) path.now) }
+{
+    let form = one_form_of(alloc, path)?;
+    let shown = if begins_with_slash(path) {
+        name_in(root, form.as_slice())
+    } else {
+        without_first(form.as_slice())
+    };
+    Vec::from_slice(alloc, shown)
 }
 
 /// A text without its last bytes.

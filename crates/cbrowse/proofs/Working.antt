@@ -28,25 +28,31 @@ use Rattle.cbrowse.specs.Needs.{needed_of}
 use Rattle.cbrowse.specs.Files.{Disk, IsFound, IsUnreadable}
 use Rattle.cbrowse.specs.Program.{AreFound, DoesFrom, DoesInto, DoesJob, DoesLoaded, FindsFirst}
 use Rattle.cbrowse.specs.Program.{Reaches, StopsAt, StopsReading, Works, file_text, most_lines}
-use Rattle.cbrowse.specs.Program.{most_read, names_of, writes_file}
+use Rattle.cbrowse.specs.Program.{file_named, most_read, names_of, writes_file}
 use Rattle.cbrowse.specs.Tagsfile.{MakesFile}
 use Rattle.cbrowse.proofs.Narrowing.{does_meant, kept_by_loads, loads_meant, meant, meant_end}
 use Rattle.cbrowse.proofs.Narrowing.{text_meant}
 
--- operands under the names of a job's files that were found are these files, and their loads lead to
--- where those by all facts would lead
-pub reaches : (disk : Disk) (job : Job) (ops : List Operand) (b : WorldBounds) (p : Profile)
+-- the operands of a job are as they were found, and then under their names
+abbrev pub AreNamed : Job → (ops named : List Operand) → Type 0
+AreNamed job ops named =
+    map file_of_operand named ≡ map (file_named job) (map file_of_operand ops)
+
+-- operands under the paths of a job's files that were found are these files, and the loads of the
+-- same under their names lead to where those by all facts would lead
+pub reaches : (disk : Disk) (job : Job) (ops its : List Operand) (b : WorldBounds) (p : Profile)
     (end : Result State RefusedOperand) → b ≡ bounds_of job → p ≡ needed_of job
-    → names_of ops ≡ files_of job → AreFound disk.finds (most_read b) ops
-    → LoadsAll p b (map file_of_operand ops) end → Reaches disk job (meant_end job end)
-reaches disk job ops b p end same alike named found loads = (
+    → names_of ops ≡ files_of job → AreFound disk.finds (most_read b) ops → AreNamed job ops its
+    → LoadsAll p b (map file_of_operand its) end → Reaches disk job (meant_end job end)
+reaches disk job ops its b p end same alike named found given loads = (
   map file_of_operand ops,
   names ops ∙ named,
   are (most_read (bounds_of job)) ops
       (subst (λ x. AreFound disk.finds (most_read x) ops) same found),
-  loads_meant job (bounds_of job) (map file_of_operand ops) end
-      (subst (λ q. LoadsAll q (bounds_of job) (map file_of_operand ops) end) alike
-      (subst (λ x. LoadsAll p x (map file_of_operand ops) end) same loads)),
+  loads_meant job (bounds_of job) (map (file_named job) (map file_of_operand ops)) end
+      (subst (λ q. LoadsAll q (bounds_of job) (map (file_named job) (map file_of_operand ops)) end)
+      alike (subst (λ x. LoadsAll p x (map (file_named job) (map file_of_operand ops)) end) same
+      (subst (λ files. LoadsAll p b files end) given loads))),
 )
   where
     names : (os : List Operand)
@@ -78,20 +84,21 @@ within_bounds job ops b p s same loads =
     ∙ same
 
 -- an operand was refused
-pub stopped : (disk : Disk) (job : Job) (ops : List Operand) (b : WorldBounds) (p : Profile)
+pub stopped : (disk : Disk) (job : Job) (ops its : List Operand) (b : WorldBounds) (p : Profile)
     (feed : Reader) (out : Writer) (ended : Ended) → b ≡ bounds_of job → p ≡ needed_of job
-    → names_of ops ≡ files_of job → AreFound disk.finds (most_read b) ops
-    → Prepares p b (map file_of_operand ops) (Err ended) → disk.done []
+    → names_of ops ≡ files_of job → AreFound disk.finds (most_read b) ops → AreNamed job ops its
+    → Prepares p b (map file_of_operand its) (Err ended) → disk.done []
     → (end : Result State RefusedOperand) × Reaches disk job end
     × DoesLoaded disk job end feed feed out out ended
-stopped disk job ops b p feed out (StoppedAt place why) same alike named found at none = (
+stopped disk job ops its b p feed out (StoppedAt place why) same alike named found given at none = (
   Err (record { place = place; why = why }),
-  reaches disk job ops b p (Err (record { place = place; why = why })) same alike named found at,
+  reaches disk job ops its b p (Err (record { place = place; why = why })) same alike named found
+      given at,
   (refl, (refl, refl), none),
 )
-stopped disk job ops b p feed out Done same alike named found at none = absurd at
-stopped disk job ops b p feed out Cut same alike named found at none = absurd at
-stopped disk job ops b p feed out (Fault fault) same alike named found at none = absurd at
+stopped disk job ops its b p feed out Done same alike named found given at none = absurd at
+stopped disk job ops its b p feed out Cut same alike named found given at none = absurd at
+stopped disk job ops its b p feed out (Fault fault) same alike named found given at none = absurd at
 
 goes : (disk : Disk) (job : Job) (t : State) (feed feed' : Reader) (out : Writer) (f : Finish)
     → writes_file job ≡ true → Reaches disk job (Ok t)
@@ -148,22 +155,23 @@ has_run finds (Lsp bounds rules root list files) lines limit t feed feed' out ou
     does
 
 -- a job from where the loads of its operands lead
-pub from_loads : (disk : Disk) (job : Job) (ops : List Operand) (b : WorldBounds) (p : Profile)
+pub from_loads : (disk : Disk) (job : Job) (ops its : List Operand) (b : WorldBounds) (p : Profile)
     (s : State) (feed feed' : Reader) (out out' : Writer) (end : Finish)
     → b ≡ bounds_of job → p ≡ needed_of job → names_of ops ≡ files_of job
-    → AreFound disk.finds (most_read b) ops → LoadsAll p b (map file_of_operand ops) (Ok s)
+    → AreFound disk.finds (most_read b) ops → AreNamed job ops its
+    → LoadsAll p b (map file_of_operand its) (Ok s)
     → DoesFrom disk s job feed feed' out out' end → Works disk job feed feed' out out' end
-from_loads disk job ops b p s feed feed' out out' end same alike named found loads does =
+from_loads disk job ops its b p s feed feed' out out' end same alike named found given loads does =
     by (writes_file job) refl does
   where
     t : State
     t = meant job s
 
     reached : Reaches disk job (Ok t)
-    reached = reaches disk job ops b p (Ok s) same alike named found loads
+    reached = reaches disk job ops its b p (Ok s) same alike named found given loads
 
     kept : s.timeline.present.profile ≡ needed_of job
-    kept = by_needed job ops b p s alike loads
+    kept = by_needed job its b p s alike loads
 
     go : (e : Finish) → HasRun e → DoesFrom disk t job feed feed' out out' e
         → Works disk job feed feed' out out' e

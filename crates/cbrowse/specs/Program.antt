@@ -32,7 +32,7 @@ use Rattle.cbrowse.specs.Writes.{WritesText}
 use Rattle.cbrowse.specs.declared.execute.finish.Finish.{Finish}
 use Rattle.cbrowse.specs.declared.execute.finish.Finish.TheVariants.{Ran, Served, Unreadable}
 use Rattle.cbrowse.specs.declared.execute.finish.Finish.TheVariants.{Unlisted, Unwritable}
-use Rattle.cb_wire.specs.Uris.{of_folder}
+use Rattle.cb_wire.specs.Uris.{given_name, of_folder}
 use Rattle.cb_words.specs.declared.job.Job.{Job}
 use Rattle.cb_words.specs.declared.job.Job.TheVariants.{Line, Find, Tags, Lsp}
 use Rattle.cbrowse.specs.Messages.{bounds_of, files_of, most_line_bytes, profile_of}
@@ -164,13 +164,23 @@ StopsReading finds most files (Served end) = ⊥
 StopsReading finds most files Unlisted = ⊥
 StopsReading finds most files Unwritable = ⊥
 
--- the files of a job under their names, in order, as they are found, and where their loads lead by
+-- the name that a file of a job has: a language server takes a path in its one form, below its
+-- root, if one was given
+abbrev pub named : Job → List ℕ → List ℕ
+named (Lsp bounds rules root list files) path =
+    given_name (option_map (λ folder. (of_folder (string_bytes folder)).path) root) path
+named _ path = path
+
+abbrev pub file_named : Job → File → File
+file_named job f = record { name = named job f.name; bytes = f.bytes }
+
+-- the files of a job, in order, as they are found, and where their loads under their names lead by
 -- the profile of the job, within its bounds
 abbrev pub Reaches : Disk → Job → Result State RefusedOperand → Type 0
 Reaches disk job end =
     (files : List File) × (map (λ f. f.name) files ≡ files_of job)
     × AllByRecursion (IsFound disk.finds (most_read (bounds_of job))) files
-    × LoadsAll (profile_of job) (bounds_of job) files end
+    × LoadsAll (profile_of job) (bounds_of job) (map (file_named job) files) end
 
 -- the job is done from a state: into a tags file, which leaves standard output alone, or over the
 -- input and output, and then no file is made

@@ -1,14 +1,19 @@
 //! The operands of a job, which are read before anything is done.
-ghost use Rattle.std.specs.Prelude.{◌≡◌, ◌<◌, ◌^◌, [], MatchResult, map, string_bytes};
+ghost use Rattle.std.specs.Prelude.{◌≡◌, ◌<◌, ◌^◌, [], IfOk, MatchResult, map, string_bytes};
+ghost use Rattle.std.specs.Option.{option_map};
+ghost use Rattle.cb_wire.specs.Uris.{given_name, of_folder};
 ghost use Rattle.cb_session.specs.Operands.{file_of_operand};
 ghost use Rattle.cbrowse.specs.Files.{IsFound};
-ghost use Rattle.cbrowse.specs.Program.{AreFound, StopsAt, StopsReading, most_read, names_of};
+ghost use Rattle.cbrowse.specs.Program.{AreFound, StopsAt, StopsReading, file_named, most_read};
+ghost use Rattle.cbrowse.specs.Program.{names_of};
 
 use crate::execute::finish::Finish;
 use cb_desk::Bounds;
 use cb_lsp::{Disk, Found};
 use cb_session::{Ended, Fault, Operand, Operands};
-use std::alloc::Global;
+use cb_wire::{Root, given_name};
+use cb_words::Job;
+use std::alloc::{AllocError, Global};
 
 /// The end of a job for which memory was refused.
 pub(crate) const OUT_OF_MEMORY: Finish = Finish::Ran(Ended::Fault(Fault::Memory));
@@ -34,7 +39,7 @@ fn read_operand<D: Disk>(
         × IsFound (D.finds disk.now) (most_read bounds) (file_of_operand o))
         (StopsAt (D.finds disk.now) (most_read bounds) name.now place) }
 {
-    match disk.read(alloc, name.as_bytes(), most_read(bounds)) {
+    match disk.read(alloc, name.as_bytes(), most_read(bounds), false) {
         Found::Holds(bytes) => match Vec::from_slice(alloc, name.as_bytes()) {
             Ok(name) => Ok(Operand { name, bytes }),
             Err(_) => Err(OUT_OF_MEMORY),
@@ -42,6 +47,52 @@ fn read_operand<D: Disk>(
         Found::NoRoom => Err(OUT_OF_MEMORY),
         Found::Gone | Found::Unreadable => Err(Finish::Unreadable(place)),
     }
+}
+
+/// The root of a language server, if one was given.
+fn root_of(alloc: Global, root: &Option<String>) -> Result<Option<Root>, AllocError>
+    ensures { IfOk result (λ given. option_map (λ r. r.path) given
+        ≡ option_map (λ folder. (of_folder (string_bytes folder)).path) root.now) }
+{
+    match root {
+        Some(folder) => Ok(Some(Root::of_folder(alloc, folder.as_bytes())?)),
+        None => Ok(None),
+    }
+}
+
+/// An operand under the name that a path below a root has.
+fn operand_named(
+    alloc: Global,
+    root: Option<&Root>,
+    operand: &mut Operand,
+) -> Result<(), AllocError>
+    ensures { IfOk result (λ _. file_of_operand operand.new ≡ record (file_of_operand operand.old) {
+        name = given_name (option_map (λ r. r.now.path) root.entry) operand.old.name.items;
+    }) }
+{
+    operand.name = given_name(alloc, root, operand.name.as_slice())?;
+    Ok(())
+}
+
+/// Gives the files of a job their names.
+pub(crate) fn name_operands(
+    alloc: Global,
+    job: &Job,
+    operands: &mut Operands,
+) -> Result<(), AllocError>
+    ensures { IfOk result (λ _. map file_of_operand operands.new.items
+        ≡ map (file_named job.now) (map file_of_operand operands.old.items)) }
+{
+    let Job::Lsp { root, .. } = job else {
+        return Ok(());
+    };
+    let root = root_of(alloc, root)?;
+    let mut place = 0;
+    'operands: while place < operands.len() {
+        operand_named(alloc, root.as_ref(), &mut operands[place])?;
+        place += 1;
+    }
+    Ok(())
 }
 
 /// Reads files in order. The first that cannot be read ends it.

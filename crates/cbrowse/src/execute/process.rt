@@ -44,13 +44,29 @@ fn read_open<F: Read + OpenFile + Drop>(
     read_whole(alloc, most, file, found.len())
 }
 
-/// The first bytes of a regular file, at most so many. What is none is not opened, since a pipe
-/// waits for a writer; another one may have come to the name meanwhile.
-fn read_regular<R: Files + AllocGlobal>(rt: &R, most: u64, path: &str) -> io::Result<Vec<u8>>
+/// Whether the file of a path has no other name: the path is not that of a link, and no other path
+/// leads to it.
+fn is_alone<R: Files>(rt: &R, path: &str) -> io::Result<bool> {
+    let found = fs::symlink_metadata(rt, path)?;
+    Ok(!found.is_symlink() && found.nlink() == 1)
+}
+
+/// The first bytes of a regular file, at most so many; of one that has no other name, if only that
+/// will do. What is none is not opened, since a pipe waits for a writer; another one may have come
+/// to the name meanwhile.
+fn read_regular<R: Files + AllocGlobal>(
+    rt: &R,
+    most: u64,
+    path: &str,
+    alone: bool,
+) -> io::Result<Vec<u8>>
     requires { most < 2 ^ 33 }
 {
     if !fs::metadata(rt, path)?.is_file() {
         return Err(io::Error::from(ErrorKind::InvalidInput));
+    }
+    if alone && !is_alone(rt, path)? {
+        return Err(io::Error::from(ErrorKind::NotFound));
     }
     read_open(rt.alloc(), most, fs::open(rt, path)?, true)
 }
@@ -58,11 +74,11 @@ fn read_regular<R: Files + AllocGlobal>(rt: &R, most: u64, path: &str) -> io::Re
 impl<R: Files + AllocGlobal> Disk for Process<'_, R> {
     ghost finds = { λ process looked. Unit {0} };
 
-    fn read(&self, _alloc: Global, path: &[u8], most: u64) -> Found {
+    fn read(&self, _alloc: Global, path: &[u8], most: u64, alone: bool) -> Found {
         let Ok(path) = str::from_utf8(path) else {
             return Found::Unreadable;
         };
-        match read_regular(self.rt, most, path) {
+        match read_regular(self.rt, most, path, alone) {
             Ok(bytes) => Found::Holds(bytes),
             Err(error) => match error.kind() {
                 ErrorKind::NotFound | ErrorKind::NotADirectory => Found::Gone,

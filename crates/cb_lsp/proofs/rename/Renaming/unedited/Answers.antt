@@ -56,7 +56,7 @@ returns g c =
           (sym c.is_open.ensures ∙ c.if-is_open.false) (
             c.unless_found.ensures,
             (
-              looked-so finds w.world w.world.bounds path _ _ found
+              looked-so finds true w.world w.world.bounds path _ _ found
                   (c.as_slice.ensures.value ∙ c.in-Ok.ensures) c.most_read-most.ensures.value refl
                   c.read-found.ensures,
               tt,

@@ -3,7 +3,7 @@ use Rattle.cb_wire.specs.Messages.{id_json}
 use Rattle.cb_lsp.specs.declared.server.Stage.TheVariants.{Down}
 use Rattle.cb_lsp.specs.Messages.{Serving}
 use Rattle.cb_lsp.specs.steps.Values.{seen}
-use Rattle.cb_lsp.proofs.Answered.{by-as, by-reply}
+use Rattle.cb_lsp.proofs.Answered.{by-as, by-same}
 use Rattle.cb_lsp.proofs.Notices.{quiet}
 use Rattle.cb_lsp.proofs.Requests.{running-again, running-asked, running-down, running-unasked}
 use Rattle.cb_lsp.proofs.server.Server.run.Goals as goal
@@ -26,12 +26,11 @@ returns-then-eq-2 g c =
 
 pub returns-in-Ok : goal.returns-in-Ok
 returns-in-Ok g c =
-    let is = running-asked c.answer.ensures.put.0 c.args.self.now (id_json c.args.id)
+    let is = running-asked c.answer_anew.ensures.0 c.args.self.now (id_json c.args.id)
     c.args.call.method.now (seen c.args.call.params) _ (sym c.eq.ensures ∙ c.if-eq.false)
     (sym c.eq-2.ensures ∙ c.if-eq-2.false) c.in-Ok.ensures in (
-      c.answer.ensures.put.0,
-      by-reply (g.D.Disk.finds c.args.disk.now) _ _ _ _ _ _ _ is c.answer.ensures.same
-          c.answer.ensures.put.1,
+      c.answer_anew.ensures.0,
+      by-same (g.D.Disk.finds c.args.disk.now) _ _ _ _ _ _ is c.answer_anew.ensures.1,
     )
 
 pub returns-in-Err : goal.returns-in-Err

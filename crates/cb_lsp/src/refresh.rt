@@ -1,0 +1,234 @@
+//! The files that are read again before a question is answered, where the client does not tell of
+//! files that are written.
+ghost use Rattle.std.specs.Prelude.{◌≡◌, ◌++◌, IfOk, Some, fold, map};
+ghost use Rattle.std.specs.Option.{option_map};
+ghost use Rattle.cb_index.specs.Rows.{Fact, tags_named, uses_of};
+ghost use Rattle.cb_tags.specs.TagLines.{Tag};
+ghost use Rattle.cb_lsp.specs.Models.{asked_of, sought_of};
+ghost use Rattle.cb_lsp.specs.Refresh.{about, files_asked, files_of_uses, files_with, sought_at};
+ghost use Rattle.cb_lsp.specs.Refresh.{sought_by, with_file, word_in_uri, word_there};
+ghost use Rattle.cb_lsp.specs.steps.Located.{client_in};
+
+use crate::documents::copy_of;
+use crate::location::Forms;
+use crate::place::bytes_of;
+use crate::question::{FileQuestion, Question};
+use crate::word::word_at;
+use cb_desk::Desk;
+use cb_wire::{Position, path_of_uri, place_of_position};
+use std::alloc::{AllocError, Global};
+use std::marker::Model;
+
+/// The most files that are read again for one answer.
+const MOST_REFRESHED: usize = 64;
+
+/// A name that is asked about, and whether the answer is about its uses, too.
+#[derive(Clone, Copy, Debug)]
+pub(crate) struct Sought<'a> {
+    pub(crate) name: Option<&'a [u8]>,
+    pub(crate) uses: bool,
+}
+
+/// The names of files, each once.
+#[derive(Debug, Drop)]
+pub(crate) struct FileNames {
+    names: Vec<Vec<u8>>,
+}
+
+impl Model for FileNames {
+    ghost use Rattle.std.specs.Prelude.{List, map, ℕ};
+
+    ghost Value = { List (List ℕ) };
+
+    ghost view = { λ files. map (λ name. name.items) files.names.items };
+}
+
+impl FileNames {
+    ghost use Rattle.std.specs.Prelude.{◌≡◌, [], false, length};
+    ghost use Rattle.std.specs.List.{list_any};
+    ghost use Rattle.std.specs.Str.{bytes_eq};
+
+    /// None yet.
+    fn new(alloc: Global) -> FileNames
+        ensures { result ≡ [] }
+    {
+        FileNames {
+            names: Vec::new(alloc),
+        }
+    }
+
+    /// The names.
+    pub(crate) fn as_slice(&self) -> &[Vec<u8>]
+        ensures { map (λ name. name.items) result.now ≡ self.now }
+    {
+        self.names.as_slice()
+    }
+
+    /// Whether a file is among them.
+    fn holds(&self, file: &[u8]) -> bool
+        ensures { result ≡ list_any (λ other. bytes_eq other file.now) self.now }
+    {
+        self.names.iter().any(|name| name.as_slice() == file)
+    }
+
+    /// Adds a file, unless it is among them or they are the most.
+    fn add(&mut self, alloc: Global, file: &[u8]) -> Result<(), AllocError>
+        ensures { IfOk result (λ _. self.new ≡ with_file self.old file.now) }
+    {
+        if self.names.len() >= MOST_REFRESHED || self.holds(file) {
+            return Ok(());
+        }
+        self.names.push(copy_of(alloc, file)?)?;
+        Ok(())
+    }
+
+    /// Adds the files of the definitions of a name.
+    fn add_definitions(&mut self, alloc: Global, desk: &Desk, name: &[u8]) -> Result<(), AllocError>
+        ensures { IfOk result (λ _. self.new ≡ fold with_file self.old (map (λ (t : Tag). t.file)
+            (tags_named desk.now.timeline.present.profile name.now
+            desk.now.timeline.present.files))) }
+    {
+        let mut rows = desk.definitions(name);
+        'rows: while let Some(row) = rows.next() {
+            self.add(alloc, row.file)?;
+        }
+        Ok(())
+    }
+
+    /// Adds the files of the uses of a name, where they are asked for.
+    fn add_uses(
+        &mut self,
+        alloc: Global,
+        desk: &Desk,
+        name: &[u8],
+        uses: bool,
+    ) -> Result<(), AllocError>
+        ensures { IfOk result (λ _. self.new
+            ≡ fold with_file self.old (files_of_uses desk.now.timeline.present name.now uses)) }
+    {
+        if !uses {
+            return Ok(());
+        }
+        let mut rows = desk.uses(name);
+        'rows: while let Some(row) = rows.next() {
+            self.add(alloc, row.file)?;
+        }
+        Ok(())
+    }
+}
+
+/// The word at a position of the file of a name, if there is one.
+fn word_there<'a>(
+    forms: Forms<'_>,
+    desk: &'a Desk,
+    name: &[u8],
+    position: Position,
+) -> Option<&'a [u8]>
+    ensures { option_map (λ word. word.now) result ≡ word_there (client_in forms)
+        desk.now.timeline.present (Some name.now) position }
+{
+    let (source, _facts) = desk.scanned(name)?;
+    let word = word_at(
+        source,
+        place_of_position(forms.encoding, source.bytes(), position),
+    )?;
+    Some(bytes_of(source, word))
+}
+
+/// The same in the file of a URI.
+fn word_in_uri<'a>(
+    alloc: Global,
+    forms: Forms<'_>,
+    desk: &'a Desk,
+    uri: &str,
+    position: Position,
+) -> Result<Option<&'a [u8]>, AllocError>
+    ensures { IfOk result (λ found. option_map (λ word. word.now) found
+        ≡ word_in_uri (client_in forms) desk.now.timeline.present uri.now position) }
+{
+    match path_of_uri(alloc, uri.as_bytes())? {
+        Some(path) => Ok(word_there(forms, desk, forms.root.name(path.as_slice()), position)),
+        None => Ok(None),
+    }
+}
+
+/// What a question about a file asks about.
+fn sought_at<'a>(
+    alloc: Global,
+    forms: Forms<'_>,
+    desk: &'a Desk,
+    uri: &str,
+    question: FileQuestion,
+) -> Result<Sought<'a>, AllocError>
+    ensures { IfOk result (λ sought. sought_of sought
+        ≡ sought_at (client_in forms) desk.now.timeline.present uri.now question) }
+{
+    let (position, uses) = match question {
+        FileQuestion::Definition(position) => (position, false),
+        FileQuestion::Hover(position) => (position, false),
+        FileQuestion::Callables(position) => (position, false),
+        FileQuestion::References(position, _) => (position, true),
+        FileQuestion::Symbols
+        | FileQuestion::Highlights(_)
+        | FileQuestion::PrepareRename(_)
+        | FileQuestion::Completions(_) => {
+            return Ok(Sought {
+                name: None,
+                uses: false,
+            });
+        }
+    };
+    let name = word_in_uri(alloc, forms, desk, uri, position)?;
+    Ok(Sought { name, uses })
+}
+
+/// What a question asks about, whose answer names other files.
+fn sought_by<'a>(
+    alloc: Global,
+    forms: Forms<'_>,
+    desk: &'a Desk,
+    question: Question<'a>,
+) -> Result<Sought<'a>, AllocError>
+    ensures { IfOk result (λ sought. sought_of sought
+        ≡ sought_by (client_in forms) desk.now.timeline.present (asked_of question.entry)) }
+{
+    match question {
+        Question::InFile(uri, question) => sought_at(alloc, forms, desk, uri, question),
+        Question::Rename(uri, position, _) => Ok(Sought {
+            name: word_in_uri(alloc, forms, desk, uri, position)?,
+            uses: true,
+        }),
+        Question::Incoming(name, _) => Ok(Sought {
+            name: Some(name.as_bytes()),
+            uses: true,
+        }),
+        Question::Outgoing(name, _, _) => Ok(Sought {
+            name: Some(name.as_bytes()),
+            uses: false,
+        }),
+        Question::WorkspaceSymbols(_) | Question::Folds(_) => Ok(Sought {
+            name: None,
+            uses: false,
+        }),
+    }
+}
+
+/// The files that are read again for a question: those of the definitions of the name that is asked
+/// about, and those of its uses, where the answer is about them.
+pub(crate) fn files_asked(
+    alloc: Global,
+    forms: Forms<'_>,
+    desk: &Desk,
+    question: Question<'_>,
+) -> Result<FileNames, AllocError>
+    ensures { IfOk result (λ files. files ≡ files_asked (client_in forms)
+        desk.now.timeline.present (asked_of question.entry)) }
+{
+    let mut files = FileNames::new(alloc);
+    let sought = sought_by(alloc, forms, desk, question)?;
+    if let Some(name) = sought.name {
+        files.add_definitions(alloc, desk, name)?;
+        files.add_uses(alloc, desk, name, sought.uses)?;
+    }
+    Ok(files)
+}
