@@ -146,6 +146,7 @@ class Row(NamedTuple):
     status: int = 0
     said: bytes = b""
     disk: dict[pathlib.Path, Optional[bytes]] = {}  # files, and folders without a text
+    links: dict[pathlib.Path, tuple[str, str]] = {}  # `link` or `hard`, and what they lead to
     writes: dict[int, dict[pathlib.Path, bytes]] = {}  # those that change before a message
 
     @property
@@ -330,13 +331,14 @@ def row_of(lines: list[str], room: pathlib.Path = pathlib.Path("/w")) -> Row:
     """A row; the root of one that reads files again is a folder in a room."""
     global root
     name = lines[0].removeprefix("== ")
-    reads = any(line.startswith(("disk ", "folder ")) for line in lines)
+    reads = any(line == "here" or line.startswith(("disk ", "folder ")) for line in lines)
     root = str(room / slug(name)) if reads else "/w"
     words: list[str] = ["lsp"]
     files: dict[str, bytes] = {}
     turns = [initialize("plain"), INITIALIZED]
     ending, status, said = ENDING, 0, b""
     disk: dict[pathlib.Path, Optional[bytes]] = {}
+    links: dict[pathlib.Path, tuple[str, str]] = {}
     writes: dict[int, dict[pathlib.Path, bytes]] = {}
     for line in lines[1:]:
         word, _, rest = repeated(line).partition(" ")
@@ -349,9 +351,14 @@ def row_of(lines: list[str], room: pathlib.Path = pathlib.Path("/w")) -> Row:
             is_copy = word == "copy"
             files[file] = (DATA / file.split("/")[-1]).read_bytes() if is_copy else plain(text)
             words += [file] * (word != "beside")
+        elif word == "here":
+            disk |= {pathlib.Path(root, file): text for file, text in files.items()}
         elif word in ("disk", "folder"):
             file, _, text = rest.partition(" ")
             disk[pathlib.Path(root, file)] = plain(text) if word == "disk" else None
+        elif word in ("link", "hard"):
+            file, _, target = rest.partition(" ")
+            links[pathlib.Path(root, file)] = (word, target)
         elif word == "write":
             file, _, text = rest.partition(" ")
             writes.setdefault(len(turns), {})[pathlib.Path(root, file)] = plain(text)
@@ -367,7 +374,7 @@ def row_of(lines: list[str], room: pathlib.Path = pathlib.Path("/w")) -> Row:
                 turns.append((sent, b""))
             else:
                 turns[-1] = (turns[-1][0], turns[-1][1] + written_by(word, rest))
-    return Row(name, words, files, turns + ending, status, said, disk, writes)
+    return Row(name, words, files, turns + ending, status, said, disk, links, writes)
 
 
 def rows(room: pathlib.Path) -> list[Row]:
@@ -396,6 +403,7 @@ def made_rows() -> Iterator[Row]:
     global root
     root = "/w"
     opening = [initialize("plain"), INITIALIZED]
+    watching = [initialize("watching"), (INITIALIZED[0], frame(WATCH))]
     names = [f"m{number:04}" for number in range(1_005)]
     text = "".join(f"#define {name} 1\n" for name in names).encode()
     found = [symbol(f"{name}=14@many.h:{line}:8-13") for line, name in enumerate(names)]
@@ -443,7 +451,7 @@ def made_rows() -> Iterator[Row]:
             title,
             ["lsp", "a.c"],
             {"a.c": b"#define G 1\n" * definitions + b"void f(void){%s}\n" % (b"G();" * calls)},
-            [*opening, outgoing_asked(definitions, told_calls), *ENDING],
+            [*watching, outgoing_asked(definitions, told_calls), *ENDING],
         )
     last = b'{"jsonrpc":"2.0","id":1,"method":"textDocument/formatting"}'
     bodies = [
@@ -522,6 +530,9 @@ class Checks:
                 path.mkdir(exist_ok=True)
             else:
                 path.write_bytes(text)
+        for path, (kind, target) in row.links.items():
+            path.unlink(missing_ok=True)
+            (os.symlink if kind == "link" else os.link)(path.parent / target, path)
         return folder
 
     def start(self, row: Row, **how) -> subprocess.Popen:
