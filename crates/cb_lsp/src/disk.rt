@@ -31,8 +31,12 @@ pub trait Disk {
     /// none is found at a link, and none that has a second name.
     fn read(&self, alloc: Global, path: &[u8], most: u64, alone: bool) -> Found
         requires { most < 2 ^ 33 }
-        ensures { finds self.now (record { path = path.now; most = most; alone = alone;
-            found = found_in result }) };
+        ensures { finds self.now (record {
+          path = path.now;
+          most = most;
+          alone = alone;
+          found = found_in result;
+        }) };
 }
 
 /// Whether a file has a text.

@@ -19,6 +19,9 @@ ghost use Rattle.cb_lsp.specs.Searches.{found_by};
 ghost use Rattle.cb_lsp.specs.Sync.{DocumentsStayInSync, RequestsChangeNothing};
 ghost use Rattle.cb_lsp.specs.Sync.{WhatIsToldChangedNothing, WhatIsToldOfEventsChangedNothing};
 ghost use Rattle.cb_lsp.specs.Words.{word_at};
+ghost use Rattle.cb_lsp.specs.declared.completion.TheConstants.{MOST_COMPLETIONS};
+ghost use Rattle.cb_lsp.specs.declared.hover.TheConstants.{MOST_HOVERS};
+ghost use Rattle.cb_lsp.specs.declared.symbols.TheConstants.{MOST_SYMBOLS};
 
 /// After any messages, whatever memory is refused and whatever is found where files are read again,
 /// each document that is open and not out of date has the text that its client has. A body that is
@@ -80,4 +83,12 @@ pub fn ranges_are_of_names()
 /// was.
 pub fn renames_are_exact()
     ensures { RenamesAreExact }
+{}
+
+/// The bounds of answers by number: the symbols that a query finds, the names that complete a word,
+/// and the definitions of a hover.
+pub fn limits_are()
+    ensures symbols { MOST_SYMBOLS ≡ 1000 }
+    ensures completions { MOST_COMPLETIONS ≡ 1000 }
+    ensures hovers { MOST_HOVERS ≡ 8 }
 {}

@@ -1,7 +1,9 @@
 //! The files that are read again before a question is answered, where the client does not tell of
 //! files that are written.
 ghost use Rattle.std.specs.Prelude.{◌≡◌, ◌++◌, IfOk, Some, fold, map};
+ghost use Rattle.std.specs.List.{list_any};
 ghost use Rattle.std.specs.Option.{option_map};
+ghost use Rattle.std.specs.Str.{bytes_eq};
 ghost use Rattle.cb_index.specs.Rows.{Fact, tags_named, uses_of};
 ghost use Rattle.cb_tags.specs.TagLines.{Tag};
 ghost use Rattle.cb_lsp.specs.Models.{asked_of, sought_of};
@@ -43,10 +45,15 @@ impl Model for FileNames {
     ghost view = { λ files. map (λ name. name.items) files.names.items };
 }
 
+/// Whether a file is one of those that have these names.
+fn is_among(names: &[Vec<u8>], file: &[u8]) -> bool
+    ensures { result ≡ list_any (λ name. bytes_eq name.items file.now) names.now }
+{
+    names.iter().any(|name| name.as_slice() == file)
+}
+
 impl FileNames {
     ghost use Rattle.std.specs.Prelude.{◌≡◌, [], false, length};
-    ghost use Rattle.std.specs.List.{list_any};
-    ghost use Rattle.std.specs.Str.{bytes_eq};
 
     /// None yet.
     fn new(alloc: Global) -> FileNames
@@ -68,14 +75,14 @@ impl FileNames {
     fn holds(&self, file: &[u8]) -> bool
         ensures { result ≡ list_any (λ other. bytes_eq other file.now) self.now }
     {
-        self.names.iter().any(|name| name.as_slice() == file)
+        is_among(self.names.as_slice(), file)
     }
 
     /// Adds a file, unless it is among them or they are the most.
     fn add(&mut self, alloc: Global, file: &[u8]) -> Result<(), AllocError>
         ensures { IfOk result (λ _. self.new ≡ with_file self.old file.now) }
     {
-        if self.names.len() >= MOST_REFRESHED || self.holds(file) {
+        if self.holds(file) || self.names.len() >= MOST_REFRESHED {
             return Ok(());
         }
         self.names.push(copy_of(alloc, file)?)?;
@@ -124,7 +131,7 @@ fn word_there<'a>(
     name: &[u8],
     position: Position,
 ) -> Option<&'a [u8]>
-    ensures { option_map (λ word. word.now) result ≡ word_there (client_in forms)
+    ensures { option_map (λ word. word.now) result ≡ word_there (client_in forms.entry)
         desk.now.timeline.present (Some name.now) position }
 {
     let (source, _facts) = desk.scanned(name)?;
@@ -144,7 +151,7 @@ fn word_in_uri<'a>(
     position: Position,
 ) -> Result<Option<&'a [u8]>, AllocError>
     ensures { IfOk result (λ found. option_map (λ word. word.now) found
-        ≡ word_in_uri (client_in forms) desk.now.timeline.present uri.now position) }
+        ≡ word_in_uri (client_in forms.entry) desk.now.timeline.present uri.now position) }
 {
     match path_of_uri(alloc, uri.as_bytes())? {
         Some(path) => Ok(word_there(forms, desk, forms.root.name(path.as_slice()), position)),
@@ -161,7 +168,7 @@ fn sought_at<'a>(
     question: FileQuestion,
 ) -> Result<Sought<'a>, AllocError>
     ensures { IfOk result (λ sought. sought_of sought
-        ≡ sought_at (client_in forms) desk.now.timeline.present uri.now question) }
+        ≡ sought_at (client_in forms.entry) desk.now.timeline.present uri.now question) }
 {
     let (position, uses) = match question {
         FileQuestion::Definition(position) => (position, false),
@@ -190,7 +197,7 @@ fn sought_by<'a>(
     question: Question<'a>,
 ) -> Result<Sought<'a>, AllocError>
     ensures { IfOk result (λ sought. sought_of sought
-        ≡ sought_by (client_in forms) desk.now.timeline.present (asked_of question.entry)) }
+        ≡ sought_by (client_in forms.entry) desk.now.timeline.present (asked_of question.entry)) }
 {
     match question {
         Question::InFile(uri, question) => sought_at(alloc, forms, desk, uri, question),
@@ -221,7 +228,7 @@ pub(crate) fn files_asked(
     desk: &Desk,
     question: Question<'_>,
 ) -> Result<FileNames, AllocError>
-    ensures { IfOk result (λ files. files ≡ files_asked (client_in forms)
+    ensures { IfOk result (λ files. files ≡ files_asked (client_in forms.entry)
         desk.now.timeline.present (asked_of question.entry)) }
 {
     let mut files = FileNames::new(alloc);

@@ -8,6 +8,10 @@ ghost use Rattle.json.specs.Print.{escape, print};
 ghost use Rattle.json.specs.Tree.{HasNumbers, depth, json_tokens};
 ghost use Rattle.cb_wire.specs.declared.calls.CallItem.{CallItem};
 ghost use Rattle.cb_wire.specs.declared.calls.Side.{Side};
+ghost use Rattle.cb_wire.specs.declared.frame.TheConstants.{MOST_BODY};
+ghost use Rattle.cb_wire.specs.declared.head.TheConstants.{MOST_HEAD};
+ghost use Rattle.cb_wire.specs.declared.header.TheConstants.{MOST_DIGITS};
+ghost use Rattle.cb_wire.specs.declared.list.TheConstants.{MOST_ELEMENTS};
 ghost use Rattle.cb_wire.specs.declared.completion.Completion.{Completion};
 ghost use Rattle.cb_wire.specs.declared.fold.Fold.{Fold};
 ghost use Rattle.cb_wire.specs.declared.message.Id.{Id};
@@ -194,4 +198,13 @@ pub fn edits_are_values()
         → document (result_body id
         (list_text (codes "{\"changes\":{") (codes ",") (codes "}}") (edits_texts fs)))
         ≡ Some (result_tree id (edits_of fs)) }
+{}
+
+/// The bounds of messages by number: the bytes of a body, of a head and of the length in it, and the
+/// elements of a list.
+pub fn limits_are()
+    ensures body { MOST_BODY ≡ 16000000 }
+    ensures head { MOST_HEAD ≡ 4096 }
+    ensures digits { MOST_DIGITS ≡ 9 }
+    ensures elements { MOST_ELEMENTS ≡ 2 ^ 48 }
 {}

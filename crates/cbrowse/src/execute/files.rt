@@ -67,7 +67,7 @@ fn operand_named(
     operand: &mut Operand,
 ) -> Result<(), AllocError>
     ensures { IfOk result (λ _. file_of_operand operand.new ≡ record (file_of_operand operand.old) {
-        name = given_name (option_map (λ r. r.now.path) root.entry) operand.old.name.items;
+      name = given_name (option_map (λ r. r.now.path) root.entry) operand.old.name.items;
     }) }
 {
     operand.name = given_name(alloc, root, operand.name.as_slice())?;
