@@ -18,8 +18,8 @@ Braces that are nested, open and closed, are shown by the wide profile too.
 The language server has one document of about a million bytes. The rows after `server:` show the
 least processor time of several equal messages, each hard one beside an ordinary one in as many
 bytes: a query that begins as each name goes on, over names of 30,000 bytes; the symbols of one line
-with a letter outside ASCII, backwards, so that each column is counted from the start; 2,000 parts
-of a change at the end of the document, beside a whole text; and nested braces, opened and folded.
+with a letter outside ASCII, backwards; 2,000 parts of a change at the end of the document, beside a
+whole text; and nested braces, opened and folded.
 
 No tags are asked for: each tag shows its whole line, so that n definitions on one line have n times
 its length of them.

@@ -22,6 +22,7 @@ pub mod Items
 pub mod Judged
 pub mod KeptClients
 pub mod Likes
+pub mod LineMarks
 pub mod Listed
 pub mod ManyTurns
 pub mod Marks

@@ -3,6 +3,7 @@ pub mod Changed
 pub mod Columns
 pub mod Completions
 pub mod Elements
+pub mod LineMarks
 pub mod Located
 pub mod Meanings
 pub mod Noted

@@ -1,18 +1,48 @@
 //! Columns and positions of places that come one behind the other.
-ghost use Rattle.std.specs.Prelude.{◌≡◌};
+ghost use Rattle.std.specs.Prelude.{◌≡◌, ◌≤◌};
+ghost use Rattle.cb_lsp.specs.steps.Columns.{IsMark};
 
 use cb_scan::Source;
 use cb_wire::{Encoding, Position, Range, column_of_place, place_of_column};
 use std::marker::Model;
 
-/// Columns of places in a line. Places that come one behind the other go through the line once.
+/// Where a character of a line begins, or the line ends, and the column there.
+#[derive(Clone, Copy)]
+struct Mark {
+    bytes: usize,
+    units: usize,
+}
+
+/// A mark at or before a place. If this one is past the place, the mark goes back: to the place, by
+/// the units between, or to the start of the line if that is nearer. Only a byte of ASCII is sure to
+/// begin a character; another place is counted from the start.
+fn mark_up_to(encoding: Encoding, line: &[u8], mark: Mark, place: usize) -> Mark
+    requires { IsMark encoding line.now mark.bytes mark.units }
+    ensures mark { IsMark encoding line.now result.bytes result.units }
+    ensures before { result.bytes ≤ place }
+{
+    if mark.bytes <= place {
+        return mark;
+    }
+    let behind = mark.bytes - place;
+    if place < behind || !line[place].is_ascii() {
+        return Mark { bytes: 0, units: 0 };
+    }
+    let units = column_of_place(encoding, line.split_at(place).1, behind);
+    Mark {
+        bytes: place,
+        units: mark.units - units,
+    }
+}
+
+/// Columns of places in a line. Places that come one behind the other, forwards or backwards, go
+/// through the line once.
 #[derive(Drop)]
 pub(crate) struct Columns<'a> {
     encoding: Encoding,
     line: &'a [u8],
-    /// Where a character begins that the line was gone through up to, and its column.
-    bytes: usize,
-    units: usize,
+    /// The last place, or the start of the character that it is in.
+    mark: Mark,
 }
 
 impl<'a> Model for Columns<'a> {
@@ -22,7 +52,7 @@ impl<'a> Model for Columns<'a> {
 
     ghost view = { λ c. record { encoding = c.encoding; line = c.line.now } };
 
-    ghost invariant = { λ c. IsMark c.encoding c.line.now c.bytes c.units };
+    ghost invariant = { λ c. IsMark c.encoding c.line.now c.mark.bytes c.mark.units };
 }
 
 impl<'a> Columns<'a> {
@@ -34,8 +64,7 @@ impl<'a> Columns<'a> {
         Columns {
             encoding,
             line,
-            bytes: 0,
-            units: 0,
+            mark: Mark { bytes: 0, units: 0 },
         }
     }
 
@@ -44,15 +73,15 @@ impl<'a> Columns<'a> {
         ensures column { result ≡ column self.old.encoding self.old.line place }
         ensures same { self.new ≡ self.old }
     {
-        if place < self.bytes {
-            return column_of_place(self.encoding, self.line, place);
-        }
-        let rest = self.line.split_at(self.bytes).1;
-        let units = column_of_place(self.encoding, rest, place - self.bytes);
+        let mark = mark_up_to(self.encoding, self.line, self.mark, place);
+        let rest = self.line.split_at(mark.bytes).1;
+        let units = column_of_place(self.encoding, rest, place - mark.bytes);
         let bytes = place_of_column(self.encoding, rest, units);
-        self.bytes += bytes;
-        self.units += units;
-        self.units
+        self.mark = Mark {
+            bytes: mark.bytes + bytes,
+            units: mark.units + units,
+        };
+        self.mark.units
     }
 }
 

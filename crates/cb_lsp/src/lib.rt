@@ -17,6 +17,7 @@ mod columns;
 mod completion;
 mod disk;
 mod documents;
+mod edited;
 mod folds;
 mod header;
 mod highlights;

@@ -12,7 +12,7 @@ changes-preserved c =
     let split = changes_among-more vs c.changes.value-index c.value-item.result c.changes-test.true
     c.value-item.is in
     step-made c.args.encoding (option_map (λ t. t.now) c.args.before)
-    (option_map (λ t. t.items) c.changes.new) (option_map (λ t. t.items) c.in_ok-made.made) _
+    c.changes.new c.in_ok-made.made _
     (change_of (value_view c.value-item.result)) _
     (changes_among (items_view (drop (c.changes.value-index + 1) vs))) split c.in_ok-made.ensures.ok
     c.changes.invariant
@@ -24,14 +24,14 @@ returns-in_err-made-clause-err c =
     c.value-item.is in
     let err : c.from_residual.result ≡ Err c.in_err-made.field-0.0 = search rules in
     let refused = step-refused c.args.encoding (option_map (λ t. t.now) c.args.before)
-    (option_map (λ t. t.items) c.changes.new) _ (change_of (value_view c.value-item.result)) _
+    c.changes.new _ (change_of (value_view c.value-item.result)) _
     (changes_among (items_view (drop (c.changes.value-index + 1) vs))) split
     c.in_err-made.ensures.err c.changes.invariant in
     rw err refused
 
 pub returns-clause-ok : goal.returns-clause-ok
 returns-clause-ok c =
-    sym (changed-last c.args.encoding (option_map (λ t. t.now) c.args.before)
-    (option_map (λ t. t.items) c.changes.new) _
+    c.text_of.ensures
+    ∙ sym (changed-last c.args.encoding (option_map (λ t. t.now) c.args.before) c.changes.new _
     (changes_among-end c.args.changes.now c.changes.value-index c.changes-test.false))
     ∙ c.changes.invariant
