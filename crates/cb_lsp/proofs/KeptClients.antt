@@ -11,7 +11,7 @@ use Rattle.cb_lsp.specs.declared.notice.Notice.{Notice}
 use Rattle.cb_lsp.specs.declared.notice.Notice.TheVariants.{Ready, Open, Change, Save, Close}
 use Rattle.cb_lsp.specs.declared.notice.Notice.TheVariants.{Files}
 use Rattle.cb_lsp.specs.Documents.{Oracle, behind_event, first_found, first_refusal, later}
-use Rattle.cb_lsp.specs.Documents.{later_refusals}
+use Rattle.cb_lsp.specs.Documents.{is_open, later_refusals}
 use Rattle.cb_lsp.specs.Messages.{Serving, all_happened, bad_name, dropped, ends_as_c, happened}
 use Rattle.cb_lsp.specs.Messages.{happened_as}
 use Rattle.cb_lsp.specs.Messages.{happened_at, happened_in, happened_to, is_opening, moved}

@@ -1,7 +1,7 @@
 -- What notifications and file events lead to.
 use Rattle.std.proofs.Common.{◌≡◌, ◌∙◌, ◌&&◌, ap, sym, subst, refl, ℕ, Bool, true, false, List, []}
 use Rattle.std.proofs.Common.{◌∷◌}
-use Rattle.std.specs.Prelude.{codes, Option, None, Some, Result, if◌then◌else◌}
+use Rattle.std.specs.Prelude.{codes, not, Option, None, Some, Result, if◌then◌else◌}
 use Rattle.std.specs.List.{AllByRecursion}
 use Rattle.std.specs.Option.{option_map}
 use Rattle.json.specs.Find.{get}
@@ -13,10 +13,10 @@ use Rattle.cb_lsp.specs.declared.notice.FileEvent.{FileEvent}
 use Rattle.cb_lsp.specs.declared.notice.FileEvent.TheVariants.{Written}
 use Rattle.cb_tags.specs.Writers.{Writer}
 use Rattle.cb_tags.specs.Writing.{Puts}
-use Rattle.cb_desk.specs.World.{World, WorldBounds}
+use Rattle.cb_desk.specs.World.{World, WorldBounds, has_file}
 use Rattle.cb_lsp.specs.Bodies.{DoesBy, written_text}
 use Rattle.cb_lsp.specs.Documents.{Looked, Oracle, Reading, Work, first_found, given_found}
-use Rattle.cb_lsp.specs.Documents.{is_renewed, looked_at, most_read, renewed}
+use Rattle.cb_lsp.specs.Documents.{is_renewed, looked_by, most_read, renewed}
 use Rattle.cb_lsp.specs.Messages.{Serving, dropped, ends_as_c, happened, happened_at, is_opening}
 use Rattle.cb_lsp.specs.Messages.{may_enter, moved, read_behind, read_renewed}
 use Rattle.cb_lsp.specs.Messages.{noticed_at, noticed_of, registers, replies, show_if, show_of}

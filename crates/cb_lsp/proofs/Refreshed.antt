@@ -1,8 +1,11 @@
 -- Files that are read again, one after another, and then an answer.
 use Rattle.std.proofs.Common.{◌≡◌, ◌∙◌, ◌++◌, Bool, List, [], ◌∷◌, ℕ, refl, ap, sym, subst, true}
-use Rattle.std.proofs.Common.{false, cond, codes, Option}
+use Rattle.std.proofs.Common.{false, cond, codes, Option, Some, ◌<◌, ◌≤◌, ◌+◌, suc, length, get_or}
+use Rattle.std.proofs.Common.{drop, map, add-one}
+use Rattle.std.proofs.Math.ListN.{drop_of_length-le}
+use Rattle.std.proofs.Math.Seq.{drop-cons}
 use Rattle.std.specs.Str.{bytes_eq}
-use Rattle.std.specs.Prelude.{OnOk, Result, Ok, Err}
+use Rattle.std.specs.Prelude.{OnOk, Result, Ok, Err, if◌then◌else◌}
 use Rattle.std.specs.List.{AllByRecursion}
 use Rattle.json.specs.Json.{Json, null}
 use Rattle.cb_tags.specs.Writers.{Writer}
@@ -17,13 +20,16 @@ use Rattle.cb_lsp.specs.declared.server.Stage.{Stage}
 use Rattle.cb_lsp.specs.declared.server.Stage.TheVariants.{Fresh, Running, Down}
 use Rattle.cb_lsp.specs.Answers.{Replied}
 use Rattle.cb_lsp.specs.Bodies.{DoesBy, Replies, written_text}
-use Rattle.cb_lsp.specs.Documents.{Looked, Oracle, Reading, behind_event, first_refusal, later}
+use Rattle.cb_lsp.specs.Documents.{Looked, Oracle, Reading, Work, behind_event, first_refusal, gone}
+use Rattle.cb_lsp.specs.Documents.{is_open, later, looked_at}
 use Rattle.cb_lsp.specs.Messages.{Outcome, Serving, and_then, answered, answered_after}
 use Rattle.cb_lsp.specs.Messages.{answered_anew, asked_reply, initialized, out_of_memory_reply}
-use Rattle.cb_lsp.specs.Messages.{refreshed, replied, replies, requested}
+use Rattle.cb_lsp.specs.Messages.{moved, out_of_memory, refreshed, refreshed_from, replied, replies}
+use Rattle.cb_lsp.specs.Messages.{requested, show_if, stays}
 use Rattle.cb_lsp.specs.Questions.{Asked, asked_by}
-use Rattle.cb_lsp.specs.Refresh.{files_asked}
-use Rattle.cb_lsp.specs.steps.Works.{one_event}
+use Rattle.cb_lsp.specs.Refresh.{files_asked, given_anew}
+use Rattle.cb_wire.specs.Uris.{path_below}
+use Rattle.cb_lsp.specs.steps.Works.{one_event, only}
 use Rattle.cb_lsp.proofs.Answered.{by-same, on-ok}
 use Rattle.cb_lsp.proofs.Events.{all-joined, and-then-more, first_of_all, quiet, so, text-after}
 
@@ -209,3 +215,74 @@ refreshed-answers finds start now next before between after id asked names left 
           (with-reply finds now next so_far.0 so_far.1 before between after
           (asked_reply o now id (Ok asked)) r so_far.2 so_far.3 same does),
     )
+
+-- the names of files, from one on, and where there is none
+pub names-drop : {A : Type 0} (name_of : A → List ℕ) (vs : List A) (i : ℕ) (v : A) → i < length vs
+    → v ≡ get_or vs i v → map name_of (drop i vs) ≡ name_of v ∷ map name_of (drop (i + 1) vs)
+names-drop name_of vs i v within is =
+    let split : drop i vs ≡ v ∷ drop (i + 1) vs =
+    rw (add-one, drop-cons vs i v) (ap (λ w. w ∷ drop (suc i) vs) (sym is)) in
+    ap (map name_of) split
+
+pub names-end : {A : Type 0} (name_of : A → List ℕ) (vs : List A) (i : ℕ) → length vs ≤ i
+    → map name_of (drop i vs) ≡ []
+names-end name_of vs i past = ap (map name_of) (drop_of_length-le vs past)
+
+-- ---- one of them
+
+-- memory was refused to the path
+pub refreshed-unread : {A E : Type 0} (finds : Looked → Type 0) (s : Serving) (name : List ℕ)
+    (old new : Writer) (r : Result A E) → is_open s.work.documents name ≡ false
+    → Puts old new r (written_text (show_if name (Some out_of_memory)))
+    → DoesBy finds (refreshed (one_event true false gone) s name) s old new r
+refreshed-unread finds s name old new r shut put =
+    let untold = moved s name [] (record { work = s.work; told = Some out_of_memory }) in
+    by-same finds (refreshed (one_event true false gone) s name) untold s old new r
+    (ap (λ b. if b then stays s else untold) (sym shut)) ((on-ok r refl, put), on-ok r tt)
+
+-- what is found is given to it
+pub refreshed-told : {A E : Type 0} (finds : Looked → Type 0) (m : Bool) (f : Reading)
+    (held s : Serving) (name : List ℕ) (work : Work) (told : Option (List ℕ)) (old new : Writer)
+    (r : Result A E) → held ≡ s → is_open held.work.documents name ≡ false
+    → record { work = work; told = told } ≡ given_anew f m held.work name
+    → Puts old new r (written_text (show_if name told))
+    → finds (looked_at held.work.world (path_below held.client.root.path name) f)
+    → DoesBy finds (refreshed (one_event false m f) s name) (record held { work = work }) old new r
+refreshed-told finds m f held s name work told old new r same shut tells put found =
+    let looked = looked_at held.work.world (path_below held.client.root.path name) f ∷ [] in
+    let meant : moved held name looked (record { work = work; told = told })
+    ≡ refreshed (one_event false m f) held name =
+    ap (moved held name looked) tells
+    ∙ ap (λ b. if b then stays held else refreshed_from f m held name) (sym shut) in
+    subst (λ x. DoesBy finds (refreshed (one_event false m f) x name) (record held { work = work })
+    old new r) same
+    (by-same finds (refreshed (one_event false m f) held name)
+    (moved held name looked (record { work = work; told = told })) (record held { work = work }) old
+    new r meant ((on-ok r refl, put), on-ok r (found, tt)))
+
+-- ---- whether they are
+
+-- what the machine decides behind the first refusal, which it did not make
+abbrev pub behind_first : Oracle → Oracle
+behind_first o = record { refusals = false ∷ o.refusals; found = o.found }
+
+module _ (s : Serving) (id : Json) (asked : Asked) where
+  pub answered-at-once : (o : Oracle) → s.watches ≡ true
+      → replied s (asked_reply o s id (Ok asked)) ≡ answered o s id (Ok asked)
+  answered-at-once o tells =
+      ap (λ b. if b then replied s (asked_reply o s id (Ok asked)) else answered_anew o s id asked)
+      (sym tells)
+
+  pub answered-unread : s.watches ≡ false
+      → replies s (out_of_memory_reply id) ≡ answered (only true) s id (Ok asked)
+  answered-unread silent =
+      ap (λ b. if b then replied s (asked_reply (only true) s id (Ok asked))
+      else replies s (out_of_memory_reply id)) (sym silent)
+
+  pub answered-behind : (o : Oracle) (names : List (List ℕ)) → s.watches ≡ false
+      → names ≡ files_asked s.client s.work.world asked
+      → answered_after o s id asked names ≡ answered (behind_first o) s id (Ok asked)
+  answered-behind o names silent are =
+      ap (answered_after o s id asked) are
+      ∙ ap (λ b. if b then replied s (asked_reply (behind_first o) s id (Ok asked))
+      else answered_after o s id asked (files_asked s.client s.work.world asked)) (sym silent)

@@ -38,6 +38,7 @@ use Rattle.cb_lsp.specs.Documents.{present, removed, renewed, saved_as, text_of_
 use Rattle.cb_lsp.specs.Documents.{text_unless, unreadable, with_document, without}
 use Rattle.cb_lsp.specs.Documents.{without_document}
 use Rattle.cb_lsp.specs.Messages.{Message, Serving, all_happened, bad_name, does, dropped}
+use Rattle.cb_lsp.specs.Messages.{initialized, out_of_memory, refreshed, refreshed_from}
 use Rattle.cb_lsp.specs.Messages.{unread}
 use Rattle.cb_lsp.specs.Bodies.{Turn, after, refused, taken as taken_as}
 use Rattle.cb_lsp.specs.Messages.{ends_as_c, fresh_server, happened, happened_as, happened_at}

@@ -28,7 +28,7 @@ use Rattle.cbrowse.specs.Needs.{needed_of}
 use Rattle.cbrowse.specs.Files.{Disk, IsFound, IsUnreadable}
 use Rattle.cbrowse.specs.Program.{AreFound, DoesFrom, DoesInto, DoesJob, DoesLoaded, FindsFirst}
 use Rattle.cbrowse.specs.Program.{Reaches, StopsAt, StopsReading, Works, file_text, most_lines}
-use Rattle.cbrowse.specs.Program.{file_named, most_read, names_of, writes_file}
+use Rattle.cbrowse.specs.Program.{files_named, most_read, names_of, writes_file}
 use Rattle.cbrowse.specs.Tagsfile.{MakesFile}
 use Rattle.cbrowse.proofs.Narrowing.{does_meant, kept_by_loads, loads_meant, meant, meant_end}
 use Rattle.cbrowse.proofs.Narrowing.{text_meant}
@@ -36,7 +36,7 @@ use Rattle.cbrowse.proofs.Narrowing.{text_meant}
 -- the operands of a job are as they were found, and then under their names
 abbrev pub AreNamed : Job → (ops named : List Operand) → Type 0
 AreNamed job ops named =
-    map file_of_operand named ≡ map (file_named job) (map file_of_operand ops)
+    map file_of_operand named ≡ files_named job (map file_of_operand ops)
 
 -- operands under the paths of a job's files that were found are these files, and the loads of the
 -- same under their names lead to where those by all facts would lead
@@ -49,9 +49,9 @@ reaches disk job ops its b p end same alike named found given loads = (
   names ops ∙ named,
   are (most_read (bounds_of job)) ops
       (subst (λ x. AreFound disk.finds (most_read x) ops) same found),
-  loads_meant job (bounds_of job) (map (file_named job) (map file_of_operand ops)) end
-      (subst (λ q. LoadsAll q (bounds_of job) (map (file_named job) (map file_of_operand ops)) end)
-      alike (subst (λ x. LoadsAll p x (map (file_named job) (map file_of_operand ops)) end) same
+  loads_meant job (bounds_of job) (files_named job (map file_of_operand ops)) end
+      (subst (λ q. LoadsAll q (bounds_of job) (files_named job (map file_of_operand ops)) end)
+      alike (subst (λ x. LoadsAll p x (files_named job (map file_of_operand ops)) end) same
       (subst (λ files. LoadsAll p b files end) given loads))),
 )
   where

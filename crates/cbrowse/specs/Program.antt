@@ -1,9 +1,10 @@
 -- What the program does: the files of a job are read and loaded, and then the job is done.
 use Rattle.std.specs.Prelude.{◌≡◌, ◌≢◌, ◌⊎◌, ◌||◌, ℕ, ◌≤◌, ◌<◌, ◌+◌, Bool, true, false, not}
-use Rattle.std.specs.Prelude.{List, [], IsTrue, length, take, Option, Result, Ok, Err}
+use Rattle.std.specs.Prelude.{List, [], IsTrue, length, take, Option, Result, Ok, Err, String}
 use Rattle.std.specs.Prelude.{codes, is_some, map, string_bytes, unwrap_or}
 use Rattle.std.specs.List.{AllByRecursion, flat_map, slice_index_or}
 use Rattle.std.specs.Option.{option_map}
+use Rattle.std.specs.Global.{Global}
 use Rattle.std.specs.Str.{bytes_eq}
 use Rattle.cb_desk.specs.Answer.{answer}
 use Rattle.cb_desk.specs.declared.rows.Format.{Format}
@@ -164,15 +165,20 @@ StopsReading finds most files (Served end) = ⊥
 StopsReading finds most files Unlisted = ⊥
 StopsReading finds most files Unwritable = ⊥
 
--- the name that a file of a job has: a language server takes a path in its one form, below its
--- root, if one was given
-abbrev pub named : Job → List ℕ → List ℕ
-named (Lsp bounds rules root list files) path =
-    given_name (option_map (λ folder. (of_folder (string_bytes folder)).path) root) path
-named _ path = path
+-- the path of the root of a language server, if one was given
+abbrev pub root_path : Option (String Global) → Option (List ℕ)
+root_path root = option_map (λ folder. (of_folder (string_bytes folder)).path) root
 
-abbrev pub file_named : Job → File → File
-file_named job f = record { name = named job f.name; bytes = f.bytes }
+-- a file of a path under the name that it has below a root
+abbrev pub file_below : Option (List ℕ) → File → File
+file_below root f = record { name = given_name root f.name; bytes = f.bytes }
+
+-- the files of a job under their names: those of a language server below its root
+abbrev pub files_named : Job → List File → List File
+files_named (Lsp bounds rules root list files) fs = map (file_below (root_path root)) fs
+files_named (Line bounds rules list files) fs = fs
+files_named (Find bounds rules field pattern list files) fs = fs
+files_named (Tags bounds rules listing tagsfile force format list files) fs = fs
 
 -- the files of a job, in order, as they are found, and where their loads under their names lead by
 -- the profile of the job, within its bounds
@@ -180,7 +186,7 @@ abbrev pub Reaches : Disk → Job → Result State RefusedOperand → Type 0
 Reaches disk job end =
     (files : List File) × (map (λ f. f.name) files ≡ files_of job)
     × AllByRecursion (IsFound disk.finds (most_read (bounds_of job))) files
-    × LoadsAll (profile_of job) (bounds_of job) (map (file_named job) files) end
+    × LoadsAll (profile_of job) (bounds_of job) (files_named job files) end
 
 -- the job is done from a state: into a tags file, which leaves standard output alone, or over the
 -- input and output, and then no file is made

@@ -27,7 +27,7 @@ mod storage;
 mod tagsfile;
 
 use crate::execute::crowded::wants_order;
-use crate::execute::files::{OUT_OF_MEMORY, name_operands, read_operands};
+use crate::execute::files::{OUT_OF_MEMORY, operands_of, read_operands};
 use crate::execute::finish::{
     Finish, bounds_of, conclude, files_of, force_of, most_line_bytes, refuse,
 };
@@ -329,9 +329,9 @@ fn work<D: Disk + Storage, I: BufRead, O: Write>(
         Ok(()) => {}
         Err(end) => return end,
     }
-    if name_operands(alloc, job, &mut operands).is_err() {
+    let Ok(operands) = operands_of(alloc, job, operands) else {
         return OUT_OF_MEMORY;
-    }
+    };
     let session = match prepare(alloc, bounds, needed_of(job), operands) {
         Ok(session) => session,
         Err(ended) => return Finish::Ran(ended),

@@ -1,11 +1,11 @@
 //! The operands of a job, which are read before anything is done.
 ghost use Rattle.std.specs.Prelude.{◌≡◌, ◌<◌, ◌^◌, [], IfOk, MatchResult, map, string_bytes};
 ghost use Rattle.std.specs.Option.{option_map};
-ghost use Rattle.cb_wire.specs.Uris.{given_name, of_folder};
+ghost use Rattle.cb_wire.specs.Uris.{given_name};
 ghost use Rattle.cb_session.specs.Operands.{file_of_operand};
 ghost use Rattle.cbrowse.specs.Files.{IsFound};
-ghost use Rattle.cbrowse.specs.Program.{AreFound, StopsAt, StopsReading, file_named, most_read};
-ghost use Rattle.cbrowse.specs.Program.{names_of};
+ghost use Rattle.cbrowse.specs.Program.{AreFound, StopsAt, StopsReading, file_below, files_named};
+ghost use Rattle.cbrowse.specs.Program.{most_read, names_of, root_path};
 
 use crate::execute::finish::Finish;
 use cb_desk::Bounds;
@@ -51,8 +51,7 @@ fn read_operand<D: Disk>(
 
 /// The root of a language server, if one was given.
 fn root_of(alloc: Global, root: &Option<String>) -> Result<Option<Root>, AllocError>
-    ensures { IfOk result (λ given. option_map (λ r. r.path) given
-        ≡ option_map (λ folder. (of_folder (string_bytes folder)).path) root.now) }
+    ensures { IfOk result (λ given. option_map (λ r. r.path) given ≡ root_path root.now) }
 {
     match root {
         Some(folder) => Ok(Some(Root::of_folder(alloc, folder.as_bytes())?)),
@@ -60,39 +59,56 @@ fn root_of(alloc: Global, root: &Option<String>) -> Result<Option<Root>, AllocEr
     }
 }
 
-/// An operand under the name that a path below a root has.
+/// An operand under the name that its path has below a root.
 fn operand_named(
     alloc: Global,
     root: Option<&Root>,
-    operand: &mut Operand,
-) -> Result<(), AllocError>
-    ensures { IfOk result (λ _. file_of_operand operand.new ≡ record (file_of_operand operand.old) {
-      name = given_name (option_map (λ r. r.now.path) root.entry) operand.old.name.items;
-    }) }
+    operand: Operand,
+) -> Result<Operand, AllocError>
+    ensures { IfOk result (λ its. file_of_operand its ≡ file_below
+        (option_map (λ r. r.now.path) root.entry) (file_of_operand operand)) }
 {
-    operand.name = given_name(alloc, root, operand.name.as_slice())?;
-    Ok(())
+    let name = given_name(alloc, root, operand.name.as_slice())?;
+    Ok(Operand {
+        name,
+        bytes: operand.bytes,
+    })
 }
 
-/// Gives the files of a job their names.
-pub(crate) fn name_operands(
+/// Operands under the names that their paths have below a root.
+fn operands_below(
+    alloc: Global,
+    root: Option<&Root>,
+    operands: Operands,
+) -> Result<Operands, AllocError>
+    ensures { IfOk result (λ its. map file_of_operand its.items ≡ map (file_below
+        (option_map (λ r. r.now.path) root.entry)) (map file_of_operand operands.items)) }
+{
+    let mut its = Vec::with_capacity(alloc, operands.len())?;
+    for operand in operands {
+        its.push(operand_named(alloc, root, operand)?)?;
+    }
+    Ok(its)
+}
+
+/// The operands of a job under their names.
+pub(crate) fn operands_of(
     alloc: Global,
     job: &Job,
-    operands: &mut Operands,
-) -> Result<(), AllocError>
-    ensures { IfOk result (λ _. map file_of_operand operands.new.items
-        ≡ map (file_named job.now) (map file_of_operand operands.old.items)) }
+    operands: Operands,
+) -> Result<Operands, AllocError>
+    ensures { IfOk result (λ its. map file_of_operand its.items
+        ≡ files_named job.now (map file_of_operand operands.items)) }
 {
-    let Job::Lsp { root, .. } = job else {
-        return Ok(());
-    };
-    let root = root_of(alloc, root)?;
-    let mut place = 0;
-    'operands: while place < operands.len() {
-        operand_named(alloc, root.as_ref(), &mut operands[place])?;
-        place += 1;
+    match job {
+        Job::Lsp { root, .. } => {
+            let root = root_of(alloc, root)?;
+            operands_below(alloc, root.as_ref(), operands)
+        }
+        Job::Line { .. } => Ok(operands),
+        Job::Find { .. } => Ok(operands),
+        Job::Tags { .. } => Ok(operands),
     }
-    Ok(())
 }
 
 /// Reads files in order. The first that cannot be read ends it.

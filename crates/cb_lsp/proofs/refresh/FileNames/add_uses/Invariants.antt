@@ -1,4 +1,4 @@
-use Rattle.std.proofs.Common.{◌≡◌, length, fold, map}
+use Rattle.std.proofs.Common.{◌≡◌, length, fold, map, true}
 use Rattle.cb_index.specs.Rows.{Fact}
 use Rattle.cb_lsp.specs.Refresh.{files_of_uses, with_file}
 use Rattle.cb_lsp.proofs.refresh.FileNames.add_uses.Given as goal

@@ -1,7 +1,7 @@
 use Rattle.std.proofs.Common.{◌≡◌, ◌∙◌, ap, refl, subst, sym, true}
 use Rattle.cb_desk.specs.World.{World}
 use Rattle.std.specs.Option.{option_copied}
-use Rattle.cb_lsp.specs.Documents.{is_renewed}
+use Rattle.cb_lsp.specs.Documents.{is_renewed, looked_by}
 use Rattle.cb_lsp.specs.Messages.{Serving}
 use Rattle.cb_lsp.specs.Models.{found_in}
 use Rattle.cb_lsp.proofs.Notices.{looked-so, renewed-told}
@@ -32,7 +32,9 @@ returns g c =
           c.args.path.now name told.new.self (option_copied told.result) c.args.out.now
           c.put_told.new.out c.put_told.result c.self.view_is c.name-name.ensures renews
           told.ensures.1 c.put_told.ensures
-          (looked-so finds c.self.inside.work.world _ c.args.path.now _ _
+          (subst (λ b. finds (looked_by b c.self.inside.work.world c.args.path.now
+          (found_in c.read-found.result))) c.is_new-alone.ensures
+          (looked-so finds c.is_new-alone.result c.self.inside.work.world _ c.args.path.now _ _
           (found_in c.read-found.result) refl c.most_read.ensures.value
-          (ap (λ (w : World). w.bounds) c.desk.ensures) c.read-found.ensures),
+          (ap (λ (w : World). w.bounds) c.desk.ensures) c.read-found.ensures)),
     )

@@ -1,0 +1,11 @@
+use Rattle.std.proofs.Common.{◌≡◌, map, take}
+use Rattle.std.specs.Option.{option_map}
+use Rattle.cb_session.specs.Operands.{file_of_operand}
+use Rattle.cbrowse.specs.Program.{file_below}
+use Rattle.cbrowse.proofs.execute.files.operands_below.Given as goal
+
+abbrev pub invariant-loop-operand : goal.invariant-loop-operand
+invariant-loop-operand l =
+    map file_of_operand l.its.items
+    ≡ map (file_below (option_map (λ r. r.now.path) l.root))
+    (map file_of_operand (take l.operand-index l.operand-items))
