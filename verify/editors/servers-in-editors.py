@@ -22,10 +22,13 @@ ASCII. An editor that is not there is passed over. What they have to be told was
     Rename    the editor's own command renames a function over three files, of which one is open:
               their buffers have the new name, and one undo in each brings the old one back. Where
               the new name cannot be taken, the reason is told and no buffer changes
+    Names     a hard link leads to a file that would be edited, or a link to it is open: the rename
+              is refused, or each place has the new name once
     Branch    git checks out another branch, in which definitions moved, and goes back. Where eglot
-              watches files, they are found where they are now. nvim 0.7.2 watches none: it finds
-              them once a buffer is opened and closed, or once the notification is sent, here by
-              hand. In both, the text of a document that is open counts until it is read again
+              watches files, they are found where they are now. nvim 0.7.2 watches none: what is
+              found are those of files that the server had, where they are now. A new file is found
+              once its buffer is opened and closed, or once the notification is sent, here by hand.
+              In both, the text of a document that is open counts until it is read again
     Wide      members, enumerators and variables are found by default, and not with --standard
     Link      the tree is opened by a link to it, and each definition is there once
     Quit      no process of the server and no temporary file is left, also where emacs quits without
@@ -131,7 +134,7 @@ BRANCH = {
 FUNCTION, MACRO, TYPEDEF, STRUCT, ENUM = 12, 14, 5, 23, 10
 ENUMERATOR, MEMBER, VARIABLE = 22, 8, 13
 FUNCTION_NAME, MACRO_NAME, STRUCT_NAME, TYPEDEF_NAME = 3, 21, 22, 7  # in a completion
-CREATED, CHANGED, DELETED = 1, 2, 3  # file events
+CREATED = 1  # a file event
 ENDS = "start", "end"
 
 # Does the steps of the file `STEPS`, and writes what it was told: JSON, with the milliseconds.
@@ -647,7 +650,7 @@ def calls(plan: Plan, editor: str) -> None:
     macros = [("SHAPE_H", MACRO_NAME), ("SIDES", MACRO_NAME)]
     plan.ask("names", main, 11, 25, is_now=(False, [("helper", FUNCTION_NAME)]))  # he|lper
     plan.ask("names", main, 6, 13, is_now=(False, macros))  # S|IDES
-    plan.ask("names", shape, 2, 0, is_now=(False, []))
+    plan.ask("names", shape, 2, 0, is_now=(True, []))
     plan.ask("names", shape, 1, 34, is_now=(False, shapes))  # sha|pe
     plan.do("type", main, 6, ["\tgro", "\tint brandish = sha"])
     plan.look("complete", main, 6, 4, is_now=(["grow"], "\tgrow"))
@@ -692,6 +695,32 @@ def renames(plan: Plan) -> None:
     plan.texts(new)
 
 
+def hard_links(plan: Plan) -> None:
+    """A rename where a hard link leads to a file that would be edited."""
+    main, shape, hard = "src/main.c", "src/shape.c", "src/hard.c"
+
+    def is_refused(told: list) -> bool:
+        return told[0].endswith("not open: src/hard.c")
+
+    plan.do("open", main)
+    for file in main, shape, hard:  # the last two have one buffer
+        plan.do("open", file)
+        plan.look("rename", main, 11, 29, "surface", is_now=is_refused)
+    plan.texts({main: TREE[main], shape: TREE[shape]})
+
+
+def links(plan: Plan) -> None:
+    """A rename where a file is open by a link to it."""
+    main, link = "src/main.c", "src/link.c"
+    texts = {main: TREE[main], link: TREE["src/shape.c"]}
+    plan.do("open", main)
+    plan.do("open", link)
+    plan.look("rename", main, 11, 29, "surface", is_now=lambda told: len(told) < 2)
+    for file, text in texts.items():
+        either = [text.splitlines(), re.sub(r"\barea\b", "surface", text).splitlines()]
+        plan.look("text", file, is_now=lambda told, either=either: told in either)
+
+
 def branches(plan: Plan, editor: str) -> None:
     """git checks out another branch, and goes back."""
     main, shape, header = "src/main.c", "src/shape.c", "src/shape.h"
@@ -699,32 +728,30 @@ def branches(plan: Plan, editor: str) -> None:
     def is_found(area: int, sides: int, grow: str) -> None:
         plan.ask("definition", main, 11, 29, is_now=[(shape, area, 4, 8)])
         plan.ask("definition", main, 6, 12, is_now=[(header, sides, 8, 13)])
-        plan.ask("definition", main, 11, 40, is_now=[(grow, 0 if "grow" in grow else 1, 4, 8)])
+        there = [(grow, 0 if "grow" in grow else 1, 4, 8)] if grow else []
+        plan.ask("definition", main, 11, 40, is_now=there)
 
     plan.do("open", main)
     plan.do("open", header)
     is_found(5, 2, "lib/list.c")
     plan.do("git", "checkout", "--quiet", "moved")
     if editor == "nvim":
-        is_found(5, 2, "lib/list.c")
-        plan.do("open", shape)
+        plan.jump(main, 11, 29, [(shape, 7, 4)])
         plan.do("drop", shape)
-        is_found(7, 2, "lib/list.c")
-        plan.do("open", "lib/list.c")  # which is gone
-        plan.do("drop", "lib/list.c")
-        plan.ask("definition", main, 11, 40, is_now=[])
-        plan.do("tell", ["lib/list.c", DELETED], ["lib/grow.c", CREATED], [header, CHANGED])
+        is_found(7, 2, "")  # lib/list.c is gone
+        plan.do("open", "lib/grow.c")  # which is new
+        plan.do("drop", "lib/grow.c")
     is_found(7, 2, "lib/grow.c")
     plan.do("reread", header)
     is_found(7, 3, "lib/grow.c")
-    plan.ask("names", main, 11, 40, is_now=(False, []))
+    plan.ask("names", main, 11, 40, is_now=(True, []))
     plan.ask("names", main, 11, 42, is_now=(False, [("grow", FUNCTION_NAME)]))
     plan.jump(main, 11, 40, [("lib/grow.c", 0, 4)])
     plan.do("drop", "lib/grow.c")
     plan.do("git", "checkout", "--quiet", "main")
     if editor == "nvim":
-        changed = [[shape, CHANGED], [header, CHANGED], ["lib/list.c", CREATED]]
-        plan.do("tell", ["lib/grow.c", DELETED], *changed)
+        is_found(5, 3, "")
+        plan.do("tell", ["lib/list.c", CREATED])
     is_found(5, 3, "lib/list.c")
     plan.do("drop", header)
     is_found(5, 2, "lib/list.c")
@@ -946,6 +973,14 @@ def by_hand(editor: Editor) -> None:
     plan = Plan(root)
     renames(plan)
     editor.check("rename", plan)
+    os.link(root / "src/shape.c", root / "src/hard.c")
+    plan = Plan(root)
+    hard_links(plan)
+    editor.check("names, hard link", plan)
+    (root / "src/hard.c").unlink()
+    plan = Plan(root)
+    links(plan)
+    editor.check("names, link", plan)
     plan = Plan(root)
     branches(plan, editor.name)
     editor.check("branch", plan)

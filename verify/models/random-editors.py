@@ -8,16 +8,19 @@
 Session number n has the seed n. It has files of the command line or none, a profile, bounds and a
 root, and then 3 to 60 messages, more often those that do something where the session stands:
 documents are opened, changed as a whole and in parts, saved and closed, files are deleted and, in
-some sessions, read again from a folder that holds other texts, and requests ask at names, headers
-and any other place, in both encodings, for lists and trees. Names are renamed, often where each
-file was opened or is on disk as the server has it, and then the client makes the edits: in each
-file the new name has to be used where the old one was, and nowhere else. Texts have CR LF, lone
-CRs, byte order marks, letters outside ASCII, halves of surrogate pairs and, in files and in
-messages, bytes that are not UTF-8. Paths have empty segments and dots, or lead outside the root.
-Some messages have wrong parameters, ids or members, and between changes of documents some are cut,
-are not JSON or are too large; some heads are odd, and some inputs end within a message. The input
-comes in random pieces. Standard output, standard error and the status are compared with
-`server_model.py`.
+some sessions, read again from a folder, and requests ask at names, headers and any other place, in
+both encodings, for lists and trees. The folder holds the texts of the files, or other ones, and
+links, hard links, folders and pipes. In some sessions it is written to between two messages, with
+an event or without: files change, vanish and come back, or get a second name. Clients can be asked
+for events or not. Some sessions have more files of one name than are read again. Names are renamed,
+often where each file was opened or is on disk as the server has it, and then the client makes the
+edits: in each file the new name has to be used where the old one was, and nowhere else. Texts have
+CR LF, lone CRs, byte order marks, letters outside ASCII, halves of surrogate pairs and, in files
+and in messages, bytes that are not UTF-8. Paths, of the command line too, have empty segments and
+dots, or lead outside the root. Some messages have wrong parameters, ids or members, and between
+changes of documents some are cut, are not JSON or are too large; some heads are odd, and some
+inputs end within a message. The input comes in random pieces. Standard output, standard error and
+the status are compared with `server_model.py`.
 
 At the first difference the seed, the input and both outputs are shown and the exit status is 1.
 Else lines tell how often each message was sent and each reply came.
@@ -27,6 +30,7 @@ from __future__ import annotations
 
 import collections
 import concurrent.futures
+import contextlib
 import json
 import os
 import pathlib
@@ -35,12 +39,14 @@ import re
 import subprocess
 import sys
 import tempfile
+import time
 from typing import NamedTuple, Optional
 
+from disk_model import Disk, Write, do_on_disk
 from draw import Draw
-from server_model import MOST_BODY, Ended, Outcome, Server, frame, headers, place_of
-from server_model import position_of, serve
-from session_model import Bounds
+from server_model import MOST_BODY, Ended, Outcome, Server, frame, headers, name_of_operand
+from server_model import place_of, position_of, serve
+from session_model import Bounds, Refused, load
 
 sys.path.insert(0, str(pathlib.Path(__file__).resolve().parents[1]))
 from shared import options, words_given  # noqa: E402
@@ -54,6 +60,11 @@ NAMES = [
 ]
 OUTSIDE = ["/usr/f.h", "/wx/a.c", "/w/../w/a.c", "/v/./b.c"]
 STEPPING = "x/../y.c"  # a name that only a file of the command line may have
+CROWD = [f"n{number:02}.c" for number in range(68)]  # more than are read again for one answer
+CROWDED = ["int f(void) {{ return {}(1); }}\n", "#define f(x) {}(x)\n", "int f(int {}) {{\n}}\n",
+           "int ab(void) {{ f({}); }}\n", "int g(void) {{ return {}(f(1)); }}\n"]
+WAYS = "definition", "hover", "prepareCallHierarchy", "references", "rename", "incoming"
+SYNC = b'{"id":"sync","method":"sync"}'  # its reply says that all before it was read
 DETOURS = ["//", "//", "/./", "/./", "///.//", "/../", "/x/../", "/.../", "/.x/"]
 NOT_NAMES = ["a b.c", "\u00e9.h", "a.cc", "a.txt", "", ".", "x" * 254 + ".c", "\n.c", "a.c?x"]
 ROOTS = ["file:///w", "file:///w/", "file://localhost/w", "FILE:///w//", "file:///a%20b%c3%a9",
@@ -111,13 +122,15 @@ class Difference(Exception):
 
 
 class Session(NamedTuple):
-    """The words and files of a run, the files and folders that it may read again, and what is sent;
-    `how` is for the model."""
+    """The words and files of a run, the writes that make its root, the folder in which it runs if
+    that is the root, what is sent and, in between, written to the root; `how` is for the model."""
 
     words: list[str]
     files: dict[str, bytes]
-    disk: dict[bytes, Optional[bytes]]
+    root: list[tuple]
+    below: Optional[str]
     data: bytes
+    writes: list[Write]
     how: dict
 
 
@@ -135,30 +148,160 @@ class Editor:
         self.home = home if self.chance(0.4) else None
         # renames then find closed files as the server has them
         self.stays_closed = self.home is not None and self.chance(0.4)
-        names = self.random.sample(NAMES, self.one(0, 1, 2, 3, 5, 8))
-        if self.home is None and self.chance(0.1):
-            names.insert(0, STEPPING)
-        names = names[: self.bounds.files]
-        texts = {name: self.text()[: self.bounds.file_bytes] for name in names}
-        self.files = texts
+        self.start: list[tuple] = []  # the writes that make the root
+        self.writes: list[Write] = []
+        self.is_written = self.home is not None and self.chance(0.6)
+        self.files: dict[str, bytes] = {}  # by the words that name them
         self.next: list[dict] = []  # what is to be sent before anything else is drawn
         self.is_renaming = False  # the next ones rename
         self.edited: dict[bytes, list[bytes]] = {}  # the names that files have to use then
-        self.disk: dict[bytes, Optional[bytes]] = {}
+        self.disk = Disk()
+        # the program runs in its root
+        self.is_below = self.home is not None and self.chance(0.6)
         if self.home is not None:
-            self.folder = self.home if self.chance(0.5) else None
-            there = self.random.sample(NAMES, self.one(0, 3, 6, 9))
-            for name in [*self.files] if self.stays_closed else there:
-                path = f"{home}/{name}".encode()
-                is_same = self.stays_closed or self.chance(0.5)
-                text = self.files.get(name) if is_same else self.text()
-                more = b"x" * (self.bounds.file_bytes + 1)
-                self.disk[path] = self.one(*[text] * 20, more, None)
+            forms = home, home, f"{home}/", f"{home}/./", home.replace("/", "//")
+            self.folder = self.one(*forms) if self.chance(0.5) else None
+        self.is_crowd = self.home is not None and self.chance(0.08)
+        self.put_files(self.crowd() if self.is_crowd else self.drawn_files())
         folder = self.folder and self.folder.encode()
         self.server = Server(self.bounds, self.profile, folder, self.disk)
-        self.server.world = self.server.world._replace(
-            files={name.encode(): text for name, text in texts.items()}
-        )
+        for given, text in self.files.items():
+            root = None if folder is None else self.server.root
+            name = name_of_operand(given.encode(), root)
+            with contextlib.suppress(Refused):
+                self.server.world = load(self.server.world, name, text)
+
+    # ---- files
+
+    def crowd(self) -> dict[str, bytes]:
+        """Many small files that all define or use one name."""
+        names = self.random.sample(CROWD, self.random.randint(64, len(CROWD)))
+        return {name: self.one(*CROWDED).format(self.one(*WORDS)).encode() for name in names}
+
+    def drawn_files(self) -> dict[str, bytes]:
+        names = self.random.sample(NAMES, self.one(0, 1, 2, 3, 5, 8))
+        if self.chance(0.1):
+            names.insert(0, STEPPING)
+        return {name: self.text() for name in names}
+
+    def put_files(self, texts: dict[str, bytes]) -> None:
+        """Names files of the command line, and makes the root."""
+        texts = {
+            name: text[: self.bounds.file_bytes]
+            for name, text in [*texts.items()][: self.bounds.files]
+        }
+        given = {name: self.word_of(name) for name in texts}
+        if self.home is not None:
+            self.make_root(texts, {it for it in texts if self.is_in_root(given[it])})
+        for name, text in texts.items():
+            word = given[name]
+            self.files[word] = self.disk.read(self.path_of(name)) if self.is_in_root(word) else text
+        if self.files and self.chance(0.02):
+            again = self.one(*self.files)
+            other = f"/{again}" if again.startswith("/") else f"./{again}"
+            self.files[other] = self.files[again]
+
+    def word_of(self, name: str) -> str:
+        """A word that names a file of the command line."""
+        if self.home is not None and self.chance(0.15):
+            folder = self.folder or self.home
+            name = self.one(f"{folder}/{name}", f"{self.home}//{name}", f"/{self.home}/./{name}")
+        elif self.chance(0.2):
+            name = self.one("./", ".//", "././/") + name
+        if self.chance(0.2) and "/" in name:
+            slash = self.one(*(it.start() for it in re.finditer("/", name)))
+            name = name[:slash] + self.one("//", "/./", "/.///") + name[slash + 1 :]
+        return name
+
+    def is_in_root(self, word: str) -> bool:
+        return self.is_below or word.startswith("/")
+
+    def path_of(self, name: str) -> bytes:
+        return f"{self.home}/{name}".encode()
+
+    def make_root(self, texts: dict[str, bytes], held: set[str]) -> None:
+        """The root holds the files of the command line that are read there, and others."""
+        there = self.random.sample(NAMES, self.one(0, 3, 6, 9))
+        more = b"x" * (self.bounds.file_bytes + 1)
+        for name in [*texts] if self.stays_closed else there:
+            is_same = self.stays_closed or self.chance(0.5)
+            text = texts.get(name) if is_same else self.text()
+            text = self.one(*[text] * 20, more, None)
+            if name not in held:
+                verb = self.one("folder", "pipe") if text is None else "replace"
+                self.make(verb, self.path_of(name), text)
+        for name in sorted(held):
+            self.make("replace", self.path_of(name), texts[name])
+        for name in sorted(held):  # some are second names of others
+            other = self.one(*sorted(held))
+            if other != name and self.chance(0.08):
+                self.make(self.one("link", "hard"), self.path_of(name), self.path_of(other))
+        while self.chance(0.2):
+            path = self.path_of(self.one(*NAMES))
+            if self.disk and path not in self.disk:
+                self.make(*self.second_name(path))
+
+    def make(self, *what) -> None:
+        if what[0] == "hard" and not isinstance(self.disk.at.get(what[2]), int):
+            return  # a hard link leads to a file alone
+        if what[0] == "link" and self.disk.end_of(what[2]) == what[1]:
+            return  # a link to itself
+        self.start.append(what)
+        self.disk.do(*what)
+
+    def second_name(self, path: bytes) -> tuple:
+        """A link to a path, or a hard link to a file."""
+        files = [it for it, what in self.disk.at.items() if isinstance(what, int) and it != path]
+        if files and self.chance(0.5):
+            return "hard", path, self.one(*files)
+        return "link", path, self.one(*self.disk, self.path_of(self.one(*NAMES)))
+
+    def write(self, size: int) -> None:
+        """Another program writes to the root, before the message at a place: more often to files
+        that the server has."""
+        root, home = self.server.root, self.home.encode() + b"/"
+        held = [it for it in self.server.world.files if root.path_of(it).startswith(home)]
+        if self.is_crowd and len(held) > 63 and self.chance(0.6):
+            held = self.last_read(held)
+        near = self.path_of(self.one(*NAMES))
+        path = root.path_of(self.one(*held)) if held and self.chance(0.8) else near
+        verb = self.one(*["write", "replace"] * 5, *["remove"] * 3, *["name"] * 3, "folder", "pipe")
+        if verb == "name":
+            what = self.second_name(path)
+        elif verb in ("write", "replace"):
+            what = verb, path, self.other_text(path)
+        else:
+            what = verb, path
+        self.disk.do(*what)
+        self.writes.append(Write(size, what))
+        if not self.next and self.chance(0.7):
+            self.next.append(self.about(root.name_in(path)))
+
+    def last_read(self, held: list[bytes]) -> list[bytes]:
+        """Those files of a crowd that are the last to be read again, and those after them."""
+
+        def rank(name: bytes) -> tuple[bool, bytes]:
+            facts = self.server.facts(self.server.world.files[name])
+            return b"f" not in [it.name for it in facts.definitions], name
+
+        return sorted(held, key=rank)[62:]
+
+    def other_text(self, path: bytes) -> bytes:
+        """A text that a file gets: its own with more before it, or without some, the one that the
+        server has, or any."""
+        name = self.server.root.name_in(path)
+        known = self.server.world.files.get(name, b"")
+        found = self.disk.read(path)
+        text = found if isinstance(found, bytes) else known
+        kind = self.random.random()
+        if kind < 0.5:
+            line = self.one(*DEFINING).format("f", "g", "ab").encode()
+            return self.one(b"\n", b"\n\n", line) + text
+        if kind < 0.6:
+            return text[self.random.randint(0, len(text)) :]
+        if kind < 0.8:
+            return known
+        return self.text() if kind < 0.97 else b"x" * (self.bounds.file_bytes + 1)
 
     def one(self, *choices):
         return self.random.choice(choices)
@@ -266,8 +409,9 @@ class Editor:
         if self.chance(0.5):
             asks = {"prepareSupport": self.one(True, True, False, 1, "true")}
             capabilities.setdefault("textDocument", {})["rename"] = asks
-        if self.chance(0.4):
-            told = {"dynamicRegistration": self.one(True, True, False, 1, "true")}
+        # without a folder of its own, each closed file would be gone for the others
+        if self.chance(0.5 if self.home else 0.8):
+            told = {"dynamicRegistration": self.one(True, True, True, False, 1, "true")}
             capabilities["workspace"] = {"didChangeWatchedFiles": told}
         if self.chance(0.95):
             params["capabilities"] = capabilities
@@ -339,6 +483,30 @@ class Editor:
         method = "textDocument/" + self.one(*asks)
         params = {"textDocument": {"uri": uri}, "position": self.position(uri)}
         return self.request(method, params)
+
+    def about(self, file: bytes, only: bytes = b"", ways: tuple = WAYS) -> dict:
+        """A question about a name that a file uses, maybe this one alone."""
+        text = self.server.world.files.get(file, b"")
+        uses = [it for it in self.server.facts(text).uses if only in (b"", it.name)]
+        if not uses:
+            return self.at_place()
+        use, uri = self.one(*uses), self.uri_of(file)
+        way = self.one(*ways)
+        if way == "incoming":
+            item = {"name": use.name.decode(), "uri": uri}
+            return self.request("callHierarchy/incomingCalls", {"item": item})
+        line, column = position_of(text, use.place, self.server.is_utf16)
+        params: dict = {"textDocument": {"uri": uri}}
+        params["position"] = {"line": line, "character": column}
+        params["context"] = {"includeDeclaration": self.one(True, False)}
+        params["newName"] = self.one(*NEW_NAMES)
+        return self.request(f"textDocument/{way}", params)
+
+    def about_crowd(self) -> dict:
+        """A question about the name that all files of a crowd have."""
+        files = self.server.world.files
+        ways = ("references", "rename", "incoming") if self.chance(0.9) else WAYS
+        return self.about(self.one(*files), b"f", ways) if files else self.at_place()
 
     def references(self) -> dict:
         uri = self.uri()
@@ -513,6 +681,7 @@ class Editor:
             self.watched: 4 if self.disk else 1,
             self.at_place: 14,
             self.references: 6,
+            self.about_crowd: 40 if self.is_crowd else 0,
             self.rename: 20 if self.stays_closed else 4,
             self.symbols: 5,
             self.all_symbols: 4,
@@ -585,10 +754,15 @@ class Editor:
         return b"\r\n".join([*lines, b"", body])
 
     def session(self) -> Session:
-        data, left, is_open = b"", self.random.randint(3, 60), True
+        data, left, is_open, root = b"", self.random.randint(3, 60), True, self.disk.copy()
         while left and is_open:
             if self.server.documents and self.chance(0.001):
                 data += self.too_large()
+            if self.is_written and self.chance(0.15):
+                self.server.take(SYNC)
+                data += frame(SYNC)
+                for _ in range(self.one(1, 1, 2, 4)):
+                    self.write(len(data))
             body = self.message()
             more = self.framed(body)
             before = len(self.server.out)
@@ -610,8 +784,9 @@ class Editor:
             words += self.one(["--root", self.folder], [f"--root={self.folder}"])
         words += ["--", *self.files]
         folder = self.folder and self.folder.encode()
-        how = {"bounds": self.bounds, "profile": self.profile, "folder": folder, "disk": self.disk}
-        return Session(words, self.files, self.disk, data, how)
+        how = {"bounds": self.bounds, "profile": self.profile, "folder": folder, "disk": root}
+        below = self.home if self.is_below else None
+        return Session(words, self.files, self.start, below, data, self.writes, how)
 
 
 # ---- runs
@@ -620,29 +795,45 @@ class Editor:
 def run(cbrowse: str, session: Session, pieces: random.Random) -> Outcome:
     """The program over a session, which comes in pieces that it reads one by one."""
     with tempfile.TemporaryDirectory() as home, tempfile.TemporaryFile() as out:
-        files = {os.path.join(home, name): text for name, text in session.files.items()}
-        for name, text in (files | session.disk).items():
-            path = pathlib.Path(os.fsdecode(name))
-            path.parent.mkdir(parents=True, exist_ok=True)
-            if text is None:
-                path.mkdir(exist_ok=True)
-            else:
-                path.write_bytes(text)
+        for what in session.root:
+            do_on_disk(*what)
+        folder = session.below or home
+        for word, text in session.files.items():
+            path = pathlib.Path(folder, word)
+            if not path.exists():
+                do_on_disk("replace", os.fsencode(path), text)
         near, far = os.pipe2(os.O_CLOEXEC | os.O_DIRECT)
-        how = {"stdin": near, "stdout": out, "stderr": subprocess.PIPE, "cwd": home}
+        how = {"stdin": near, "stdout": out, "stderr": subprocess.PIPE, "cwd": folder}
         started = subprocess.Popen([cbrowse, *session.words], **how)
         os.close(near)
         place, most = 0, pieces.choice([10, 100, 1_000, 4_096])
+        most = most if len(session.data) < 20_000 else 4_096
+        places = [*dict.fromkeys(it.place for it in session.writes), len(session.data)]
         try:
-            while place < len(session.data):
-                size = pieces.randint(1, most if len(session.data) < 20_000 else 4_096)
-                place += os.write(far, session.data[place : place + size])
+            for number, end in enumerate(places, 1):
+                while place < end:
+                    size = min(pieces.randint(1, most), end - place)
+                    place += os.write(far, session.data[place : place + size])
+                if number < len(places):
+                    wait_for(number, out.fileno(), started)
+                for write in session.writes:
+                    if write.place == end and number < len(places):
+                        do_on_disk(*write.what)
         except BrokenPipeError:
             pass  # it ended before it read all
         os.close(far)
         said = started.communicate(timeout=PATIENCE)[1]
         out.seek(0)
         return Outcome(out.read(), said, started.returncode)
+
+
+def wait_for(number: int, out: int, started: subprocess.Popen) -> None:
+    """Waits until so many replies say that all before was read, or the run has ended."""
+    until = time.monotonic() + PATIENCE
+    while os.pread(out, 1 << 26, 0).count(b'"id":"sync",') < number and started.poll() is None:
+        if time.monotonic() > until:
+            raise subprocess.TimeoutExpired(started.args, PATIENCE)
+        time.sleep(0.0005)
 
 
 def compare(cbrowse: str, seed: int) -> tuple[collections.Counter, collections.Counter]:
@@ -654,7 +845,7 @@ def compare(cbrowse: str, seed: int) -> tuple[collections.Counter, collections.C
 def compare_in(home: str, cbrowse: str, seed: int):
     session = Editor(seed, home).session()
     operands = [(name.encode(), text) for name, text in session.files.items()]
-    expected = serve(operands, session.data, **session.how)
+    expected = serve(operands, session.data, session.writes, **session.how)
     found = run(cbrowse, session, random.Random(seed))
     if found != expected:
         same = len(os.path.commonprefix([found.out, expected.out]))
@@ -665,6 +856,8 @@ def compare_in(home: str, cbrowse: str, seed: int):
                 [
                     f"the session of seed {seed} differs",
                     *(f"file {name}: {text!r}" for name, text in session.files.items()),
+                    *(f"root: {what}" for what in session.root),
+                    *(f"written: {write}" for write in session.writes),
                     f"words: {session.words!r}",
                     f"input: {shown[:60_000]!r}",
                     f"expected, from byte {start} on: {expected.out[start:start + 1500]!r}"
@@ -677,9 +870,12 @@ def compare_in(home: str, cbrowse: str, seed: int):
     methods = re.findall(rb'"method" ?:\s*"([^"]*)"', session.data)
     sent = collections.Counter(it.replace(b"\\/", b"/") or b"none" for it in methods)
     kinds = rb'"(?:message|result)":("[^"]{0,40}|null|\[\]|\[|\{"[A-Za-z]+")'
-    came = re.sub(rb"cbrowse: \S+:", b"cbrowse: NAME:", expected.out)
+    out, error = (
+        re.sub(rb"cbrowse: \S+:", b"cbrowse: NAME:", it) for it in (expected.out, expected.error)
+    )
+    came = re.sub(rb'not open: [^"]+', b"not open: NAME", out)
     told = collections.Counter(re.findall(kinds, came))
-    told[b"status %d %s" % (expected.status, expected.error.strip())] += 1
+    told[b"status %d %s" % (expected.status, error.strip())] += 1
     return sent, told
 
 

@@ -1,8 +1,9 @@
 """What `cbrowse lsp` writes: a model of the language server, written from its rules alone.
 
 Messages are framed and judged here, documents are opened, changed and closed, and requests are
-answered. What texts hold is in `text_model.py` and `wide_model.py`, and which texts and names of
-files are accepted is in `session_model.py`. Memory never runs out here.
+answered. What texts hold is in `text_model.py` and `wide_model.py`, which texts and names of files
+are accepted is in `session_model.py`, and what is found on disk in `disk_model.py`. Memory never
+runs out here.
 """
 
 from __future__ import annotations
@@ -15,13 +16,14 @@ from typing import Callable, NamedTuple, Optional
 
 import text_model
 import wide_model
+from disk_model import GONE, UNREADABLE, Disk
 from session_model import Bounds, Outcome, Refused, World, drop, is_file_name, load, reload, told
 from text_model import RESERVED, cut_lines, header, parts_of
 
 sys.set_int_max_str_digits(0)
 MOST_HEAD, MOST_BODY, MOST_DEPTH = 4_096, 16_000_000, 128
 MOST_SYMBOLS, MOST_HOVERED, MOST_COMPLETIONS = 1_000, 8, 1_000
-MOST_LINE, MOST_QUERY = 400, 255
+MOST_LINE, MOST_QUERY, MOST_READ_AGAIN = 400, 255, 64
 DROPPED = b"out of date, a message was dropped: close the file and open it again"
 WELCOME = (
     b'{"capabilities":{"positionEncoding":"%s",'
@@ -190,6 +192,14 @@ def string_of(value, *names):
     return found.encode()
 
 
+def is_declared_wanted(params):
+    """Whether the uses that are names of definitions are asked for."""
+    found = member(params, "context", "includeDeclaration")
+    if not isinstance(found, bool):
+        raise BAD_PARAMETERS
+    return found
+
+
 def natural(value, *names):
     """A member that is an integer from 0 up, and below 2^64."""
     found = member(value, *names)
@@ -346,6 +356,14 @@ def headers(text):
     return [(place, name) for place, name in (header(text, it.tokens) for it in lines) if name]
 
 
+def header_at(text, place):
+    """The header at a place, or directly before it."""
+    for start, name in headers(text):
+        if start <= place <= start + len(name):
+            return name
+    return None
+
+
 # ---- names and URIs
 
 
@@ -394,6 +412,14 @@ class Root(NamedTuple):
         if name.startswith(b"/"):
             return b"file://" + escaped(name)
         return self.uri + b"/" + escaped(name)
+
+
+def name_of_operand(given, root):
+    """The name of a FILE, below a root if there is one."""
+    path = one_form(given)
+    if not given.startswith(b"/"):
+        return path[1:]
+    return path if root is None else root.name_in(path)
 
 
 def root_of_words(folder):
@@ -465,7 +491,7 @@ class Server:
 
     def __init__(self, bounds=Bounds(), profile=b"", folder=None, disk=None):
         self.world, self.documents = World({}, bounds=bounds), {}
-        self.disk = disk or {}  # files by their paths, and folders, which have no bytes
+        self.disk = Disk() if disk is None else disk
         self.facts = PROFILES[profile]
         self.root = Root() if folder is None else root_of_words(folder)
         self.is_root_given = folder is not None
@@ -488,11 +514,14 @@ class Server:
 
     # ---- messages
 
-    def run(self, data):
-        """Reads messages until the run ends: what is written, said, and the status."""
-        place = 0
+    def run(self, data, writes=()):
+        """Reads messages until the run ends: what is written, said, and the status. Before the
+        message at a place is read, the disk is written to as `writes` has it for that place."""
+        place, writes = 0, [*writes]
         try:
             while place < len(data):
+                while writes and writes[0].place <= place:
+                    self.disk.do(*writes.pop(0).what)
                 size, start = head_at(data, place)
                 place = start + size
                 if place > len(data):
@@ -582,6 +611,8 @@ class Server:
         }
         if method not in results:
             raise Error(-32601, b"unknown method")
+        if not self.watches:
+            self.read_named(method, params)
         return results[method](params)
 
     # ---- its life
@@ -686,17 +717,16 @@ class Server:
         name = self.document_of(params)
         if name in self.documents:
             kept = self.documents.pop(name).kept
-            self.read_again(name, path_of(string_of(params, "textDocument", "uri")), kept)
+            found = self.disk.read(path_of(string_of(params, "textDocument", "uri")))
+            self.give(name, kept if found is GONE and kept is not None else found)
 
-    def read_again(self, name, path, other=None):
-        """Gives a file what is on disk, or another text where nothing is there."""
-        text = self.disk.get(path, other)
-        if path in self.disk and text is None:
-            self.show(name, b"cannot be read")
-        elif text is not None:
-            refusal = self.store(name, text)
-            if refusal is not None:
-                self.show(name, refusal)
+    def give(self, name, found):
+        """Gives a file the text that is found, if there is one."""
+        if found is GONE:
+            return
+        refusal = b"cannot be read" if found is UNREADABLE else self.store(name, found)
+        if refusal is not None:
+            self.show(name, refusal)
 
     def did_change_watched(self, params):
         changes = member(params, "changes")
@@ -713,8 +743,48 @@ class Server:
             may_come = may_be_named(name) and name != path
             if kind.value == 3 and name in self.world.files:
                 self.world = drop(self.world, name)
-            elif kind.value in (1, 2) and (name in self.world.files or may_come):
-                self.read_again(name, path)
+            elif kind.value in (1, 2) and name in self.world.files:
+                self.give(name, self.disk.read(path))
+            elif kind.value in (1, 2) and may_come:
+                self.give(name, self.disk.read(path, alone=True))
+
+    # ---- files that no event reports
+
+    def read_named(self, method, params):
+        """Reads the files again that the answer of a question names."""
+        name, is_of_uses = self.asked_about(method, params)
+        defining = {it.file for it in self.named(name)[0]}
+        using = {
+            file
+            for file, text in self.world.files.items()
+            if is_of_uses and any(use.name == name for use in self.facts(text).uses)
+        }
+        files = [*sorted(defining), *sorted(using - defining)]
+        for file in files[:MOST_READ_AGAIN]:
+            if file in self.documents:
+                continue
+            found = self.disk.read(self.root.path_of(file))
+            if found is GONE:
+                self.world = drop(self.world, file)
+            else:
+                self.give(file, found)
+
+    def asked_about(self, method, params):
+        """The name that a question is about, if there is one, and whether its uses count."""
+        if method.startswith("callHierarchy/"):
+            return self.item_of(method, params)[0], method == "callHierarchy/incomingCalls"
+        is_of_uses = method in ("textDocument/references", "textDocument/rename")
+        asks = "definition", "hover", "prepareCallHierarchy", "references", "rename"
+        if method not in [f"textDocument/{it}" for it in asks]:
+            return None, False
+        if method == "textDocument/references":
+            is_declared_wanted(params)
+        if method == "textDocument/rename":
+            string_of(params, "newName")
+        _, text, place = self.asked(params)
+        # `Refresh.antt` takes the word in a header, too; the page takes none there for a definition
+        word = word_at(text, place)
+        return text[word[0] : word[1]] if word else None, is_of_uses
 
     # ---- answers
 
@@ -790,10 +860,10 @@ class Server:
         file, text, place = self.asked(params)
         if file is None:
             return b"null"
-        for start, name in headers(text):
-            if start <= place <= start + len(name):
-                zero = b'{"start":%s,"end":%s}' % ((position_form((0, 0)),) * 2)
-                return listed(self.location(it, zero) for it in self.files_of_header(file, name))
+        name = header_at(text, place)
+        if name is not None:
+            zero = b'{"start":%s,"end":%s}' % ((position_form((0, 0)),) * 2)
+            return listed(self.location(it, zero) for it in self.files_of_header(file, name))
         word = word_at(text, place)
         meant = self.meant(file, text[word[0] : word[1]]) if word else []
         return listed(self.location(it.file, self.range_of(it)) for it in meant)
@@ -823,9 +893,7 @@ class Server:
         return b'{"contents":%s,"range":%s}' % (contents, span)
 
     def references(self, params):
-        is_wanted = member(params, "context", "includeDeclaration")
-        if not isinstance(is_wanted, bool):
-            raise BAD_PARAMETERS
+        is_wanted = is_declared_wanted(params)
         file, text, place = self.asked(params)
         if file is None:
             return b"null"
@@ -882,13 +950,15 @@ class Server:
 
     def may_edit(self, file):
         """Whether an editor makes the edits of a file where they belong: the file is below the
-        root, and it is open and not lost, or has on disk a text that all editors count alike."""
+        root, and it is open and not lost, or has on disk a text that all editors count alike, under
+        this name alone."""
         if any(segment in (b"", b".", b"..") for segment in file.split(b"/")):
             return False
         if file in self.documents:
             return not self.documents[file].is_lost
         text = self.world.files[file]
-        return self.disk.get(self.root.path_of(file)) == text and is_counted_alike(text)
+        found = self.disk.read(self.root.path_of(file), alone=True)
+        return found == text and is_counted_alike(text)
 
     def edits(self, file, places, name, new):
         return listed(
@@ -945,14 +1015,19 @@ class Server:
         """The functions and macros that a name means in a file."""
         return [it for it in self.meant(file, name) if it.definition.kind in (b"f", b"d")]
 
-    def item_of(self, params):
-        """The name and the file of an item, where there is such a file."""
+    def item_of(self, method, params):
+        """The name, the file and, for outgoing calls, the position of an item; no file where there
+        is no such one."""
         name, path = string_of(params, "item", "name"), path_of(string_of(params, "item", "uri"))
+        position = None
+        if method == "callHierarchy/outgoingCalls":
+            names = "item", "selectionRange", "start"
+            position = [natural(params, *names, it) for it in ("line", "character")]
         file = None if path is None else self.root.name_in(path)
-        return name, file if file in self.world.files else None
+        return name, file if file in self.world.files else None, position
 
     def incoming_calls(self, params):
-        name, file = self.item_of(params)
+        name, file, _ = self.item_of("callHierarchy/incomingCalls", params)
         if file is None:
             return b"null"
         groups: dict = {}
@@ -970,16 +1045,11 @@ class Server:
         return listed(rows)
 
     def outgoing_calls(self, params):
-        string_of(params, "item", "name")
-        string_of(params, "item", "uri")
-        line, column = (
-            natural(params, "item", "selectionRange", "start", it) for it in ("line", "character")
-        )
-        name, file = self.item_of(params)
+        name, file, position = self.item_of("callHierarchy/outgoingCalls", params)
         if file is None:
             return b"null"
         text = self.world.files[file]
-        place = place_of(text, line, column, self.is_utf16)
+        place = place_of(text, *position, self.is_utf16)
         groups: dict = {}
         for call in self.facts(text).calls:
             if (call.caller_place, call.caller) == (place, name):
@@ -1022,12 +1092,13 @@ class Server:
         return listed(self.symbol(it, False) for it in (exact + holding)[:MOST_SYMBOLS])
 
 
-def serve(operands, data, **how):
+def serve(operands, data, writes=(), **how):
     """A run over files of the command line: what is written, said, and the status."""
     server = Server(**how)
-    for name, text in operands:
+    for given, text in operands:
+        name = name_of_operand(given, server.root if server.is_root_given else None)
         try:
             server.world = load(server.world, name, text)
         except Refused as refused:
-            return Outcome(b"", b"cbrowse: %s: %s\n" % (told(name), str(refused).encode()), 1)
-    return server.run(data)
+            return Outcome(b"", b"cbrowse: %s: %s\n" % (told(given), str(refused).encode()), 1)
+    return server.run(data, writes)

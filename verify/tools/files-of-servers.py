@@ -16,6 +16,9 @@ Odd     names with signs of a shell are listed. Names with a blank, a `$`, a bac
 Bounds  --max-files and --max-file-bytes leave out more, and are handed on
 Profile --wide is handed on by default and not with --standard; --prototypes is handed on with it
 Root    is the folder without links in its path; --root names another one
+Names   closed files are edited under one name alone: not if a hard link from elsewhere leads to
+        one. By a link to the root they are edited below the folder that it leads to. Files that
+        are written, gone or behind a link while the server runs are found as they are then
 Input   what the editor writes is what the program reads, to the byte
 Ends    an editor that shuts the server down gets status 0, and one that goes away 1; wrong words
         get 2, no such folder or program 1. No temporary file is left
@@ -319,6 +322,77 @@ def roots(place: Spied) -> None:
     check("--root", f"--root {folder} " in given and names == ["a.c"], given)
 
 
+class Client:
+    """Speaks to a server that serves a folder, as an editor that cannot be asked for events."""
+
+    def __init__(self, place: Spied, *words: object):
+        self.root = place.folder.resolve() / "names"
+        how = {"stdin": subprocess.PIPE, "stdout": subprocess.PIPE, "env": place.settings()}
+        words = "sh", place.script, *map(str, words)
+        self.server = subprocess.Popen(words, cwd=self.root, **how)
+        self.ask("initialize", rootUri=None)
+
+    def ask(self, method: str, name: str = "", place: tuple[int, int] = (0, 4), **more) -> object:
+        """A question about a place of a file: the result, or the text of the error."""
+        if name:
+            more["textDocument"] = {"uri": f"file://{self.root}/{name}"}
+            more["position"] = dict(zip(("line", "character"), place))
+        body = json.dumps({"id": 1, "method": method, "params": more}).encode()
+        self.server.stdin.write(b"Content-Length: %d\r\n\r\n%s" % (len(body), body))
+        self.server.stdin.flush()
+        while True:
+            length = int(self.server.stdout.readline().split(b":")[1])
+            self.server.stdout.readline()
+            reply = json.loads(self.server.stdout.read(length))
+            if "id" in reply:
+                return reply["result"] if "result" in reply else reply["error"]["message"]
+
+    def definitions(self) -> list[tuple[str, int]]:
+        """Name and line of each definition of what stands at 1:1 of b.c."""
+        found = self.ask("textDocument/definition", "b.c", (1, 1)) or []
+        there = [(it["uri"], it["range"]["start"]["line"]) for it in found]
+        return [(uri.removeprefix(f"file://{self.root}/"), line) for uri, line in there]
+
+    def renamed(self) -> object:
+        """The files in which f of a.c is renamed, or why it is not."""
+        told = self.ask("textDocument/rename", "a.c", newName="h")
+        uris = [] if isinstance(told, str) else sorted(told["changes"])
+        return told if isinstance(told, str) else [it.removeprefix("file://") for it in uris]
+
+    def end(self) -> int:
+        self.ask("shutdown")
+        self.server.communicate()
+        return self.server.returncode
+
+
+def names(place: Spied) -> None:
+    place.put("names/a.c")
+    place.put("names/b.c", "int g(void) {\n\tf();\n}\n")
+    root = place.folder.resolve() / "names"
+    (place.folder / "name").symlink_to(root)
+    os.link(root / "b.c", place.folder / "b.c")
+    both = [f"{root}/a.c", f"{root}/b.c"]
+    client = Client(place)
+    check("a hard link from elsewhere", client.renamed() == "not open: b.c")
+    (place.folder / "b.c").unlink()
+    check("which is taken away", client.renamed() == both)
+    check("the end", client.end() == 0)
+    client = Client(place, "--root", place.folder / "name")
+    check("a rename by a link to the root", client.renamed() == both)
+    for line in 2, 0:
+        place.put("names/a.c", "\n" * line + "int f(void) {\n}\n")
+        found = client.definitions()
+        check(f"a file has the function on line {line}", found == [("a.c", line)], found)
+    place.put("moved/a.c", "\nint f(void) {\n}\n")
+    (root / "a.c").unlink()
+    (root / "a.c").symlink_to("../moved/a.c")
+    found = client.definitions()
+    check("a link has taken its place", found == [("a.c", 1)], found)
+    (root / "a.c").unlink()
+    check("it is gone", client.definitions() == [])
+    check("the end", client.end() == 0)
+
+
 def input_and_ends(place: Spied) -> None:
     place.put("ends/a.c")
     room = place.folder / "room"
@@ -391,6 +465,7 @@ def main() -> int:
         bounds(place)
         profiles(place)
         roots(place)
+        names(place)
         input_and_ends(place)
         many(place)
     return report.status()
