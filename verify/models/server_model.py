@@ -764,9 +764,7 @@ class Server:
             if file in self.documents:
                 continue
             found = self.disk.read(self.root.path_of(file))
-            if found is GONE:
-                self.world = drop(self.world, file)
-            else:
+            if found not in (GONE, UNREADABLE, b""):
                 self.give(file, found)
 
     def asked_about(self, method, params):
@@ -782,7 +780,7 @@ class Server:
         if method == "textDocument/rename":
             string_of(params, "newName")
         _, text, place = self.asked(params)
-        # `Refresh.antt` takes the word in a header, too; the page takes none there for a definition
+        # the word in the name of a header counts, too
         word = word_at(text, place)
         return text[word[0] : word[1]] if word else None, is_of_uses
 

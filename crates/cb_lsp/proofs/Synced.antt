@@ -614,10 +614,12 @@ module _ (s : Serving) (sent : Sent) (good : Good s.work sent) where
   -- a file is read again
   anew-good : (f : Reading) (m : Bool) (name : List ℕ) → is_open s.work.documents name ≡ false
       → Good (given_anew f m s.work name).work sent
-  anew-good gone m name h = goes-if s.work sent good m name
+  anew-good gone m name h = good
   anew-good unreadable m name h = good
   anew-good no_room m name h = good
-  anew-good (holds new) m name h =
+  anew-good (holds []) m name h = good
+  anew-good (holds (b ∷ bs)) m name h =
+      let new = b ∷ bs in
       elim (bytes_eq new (text_of_file s.work.world.files name)) as (λ b. Good (cond b
       (record { work = s.work; told = None }) (given m s.work name (Some new))).work sent) [
         | true ↦ good

@@ -1,5 +1,5 @@
 -- What is told of a document, and requests, change no file.
-use Rattle.std.proofs.Common.{◌≡◌, ◌∙◌, ap, refl, [], ◌&&◌, ◌||◌, not, ℕ, Bool, true, false, cond, List, codes}
+use Rattle.std.proofs.Common.{◌≡◌, ◌∙◌, ◌∷◌, ap, refl, [], ◌&&◌, ◌||◌, not, ℕ, Bool, true, false, cond, List, codes}
 use Rattle.std.proofs.Common.{Option, None, Some, Result, Ok, Err}
 use Rattle.std.specs.Str.{bytes_eq}
 use Rattle.json.specs.Json.{Json, null}
@@ -145,14 +145,12 @@ steps-documents w (Err why) = refl
 
 anew-documents : (f : Reading) (no_memory : Bool) (w : Work) (name : List ℕ)
     → (given_anew f no_memory w name).work.documents ≡ w.documents
-anew-documents gone no_memory w name =
-    let r = taken no_memory w.world (unload name) in
-    elim (is_open w.documents name || not (has_file w.world.files name)) as (λ b.
-    (cond b (record { work = w; told = None }) (after_step w r)).work.documents ≡ w.documents)
-    [ true ↦ refl | false ↦ steps-documents w r ]
+anew-documents gone no_memory w name = refl
 anew-documents unreadable no_memory w name = refl
 anew-documents no_room no_memory w name = refl
-anew-documents (holds new) no_memory w name =
+anew-documents (holds []) no_memory w name = refl
+anew-documents (holds (b ∷ bs)) no_memory w name =
+    let new = b ∷ bs in
     let r = taken no_memory w.world (text_step w.world.files name new) in
     elim (bytes_eq new (text_of_file w.world.files name)) as (λ b.
     (cond b (record { work = w; told = None }) (after_step w r)).work.documents ≡ w.documents)

@@ -13,7 +13,7 @@ use Rattle.cb_wire.specs.Positions.{place}
 use Rattle.cb_lsp.specs.Answers.{name_of_uri}
 use Rattle.cb_lsp.specs.Clients.{Client}
 use Rattle.cb_lsp.specs.Documents.{Reading, Told, Work, given, given_found, gone, holds, no_room}
-use Rattle.cb_lsp.specs.Documents.{removed, unreadable}
+use Rattle.cb_lsp.specs.Documents.{unreadable}
 use Rattle.cb_lsp.specs.Questions.{Asked, folds, in_file, incoming, outgoing, rename}
 use Rattle.cb_lsp.specs.Questions.{workspace_symbols}
 use Rattle.cb_lsp.specs.Words.{word_at}
@@ -88,12 +88,13 @@ files_asked c w asked = let sought = sought_by c w asked in files_with w sought.
 
 -- ---- what is found
 
--- a file has the text that is found; it goes away where there is none, and stays as it is where it
--- cannot be read
+-- a file stays as it is that is not there, cannot be read or is empty, since another program may be
+-- about to write it, and one that has its text; it is given another text
 abbrev pub given_anew : Reading → Bool → Work → (name : List ℕ) → Told
-given_anew gone no_memory w name = removed no_memory w name
-given_anew unreadable no_memory w name = given_found unreadable no_memory w name None
-given_anew no_room no_memory w name = given_found no_room no_memory w name None
-given_anew (holds new) no_memory w name =
-    if bytes_eq new (text_of_file w.world.files name) then record { work = w; told = None }
-    else given no_memory w name (Some new)
+given_anew gone no_text w name = record { work = w; told = None }
+given_anew unreadable no_text w name = record { work = w; told = None }
+given_anew no_room no_text w name = given_found no_room no_text w name None
+given_anew (holds []) no_text w name = record { work = w; told = None }
+given_anew (holds (b ∷ bs)) no_text w name =
+    if bytes_eq (b ∷ bs) (text_of_file w.world.files name) then record { work = w; told = None }
+    else given no_text w name (Some (b ∷ bs))

@@ -362,32 +362,32 @@ impl Workspace {
         }
     }
 
-    /// Gives a file the text that is found, unless it has it; what the client is told.
+    /// Gives a file the text that is found, unless that is empty or the text that it has; what the
+    /// client is told.
     fn give_other(&mut self, alloc: Global, name: &[u8], text: Vec<u8>) -> Option<&'static str>
         ensures { (no_text : Bool) × (record { work = self.new; told = option_copied result }
             ≡ given_anew (holds text.items) no_text self.old name.now) }
     {
-        if has_text(&self.desk, name, text.as_slice()) {
+        if text.is_empty() || has_text(&self.desk, name, text.as_slice()) {
             None
         } else {
             self.give(alloc, name, Some(text))
         }
     }
 
-    /// Gives a file what is found where it is read again, and takes it away where that is nothing;
-    /// what the client is told.
+    /// Gives a file what is found where it is read again; what the client is told.
     pub(crate) fn give_anew(
         &mut self,
         alloc: Global,
         name: &[u8],
         found: Found,
     ) -> Option<&'static str>
-        ensures { (no_memory : Bool) × (record { work = self.new; told = option_copied result }
-            ≡ given_anew (found_in found) no_memory self.old name.now) }
+        ensures { (no_text : Bool) × (record { work = self.new; told = option_copied result }
+            ≡ given_anew (found_in found) no_text self.old name.now) }
     {
         match found {
-            Found::Gone => self.remove(alloc, name),
-            Found::Unreadable => self.give_found(alloc, name, Found::Unreadable, None),
+            Found::Gone => None,
+            Found::Unreadable => None,
             Found::NoRoom => self.give_found(alloc, name, Found::NoRoom, None),
             Found::Holds(text) => self.give_other(alloc, name, text),
         }

@@ -1,5 +1,5 @@
 -- The files of a process: what is found, what is seen of them, and what is done to them by name.
-use Rattle.std.specs.Prelude.{◌≡◌, ◌⊎◌, ℕ, List, [], ◌∷◌, Option}
+use Rattle.std.specs.Prelude.{◌≡◌, ◌⊎◌, ℕ, false, List, [], ◌∷◌, Option}
 use Rattle.cb_desk.specs.World.{File}
 use Rattle.cb_lsp.specs.Documents.{Looked, Reading, gone, holds, unreadable}
 use Rattle.cbrowse.specs.declared.execute.storage.Seen.{Seen}

@@ -48,7 +48,7 @@ fn read_open<F: Read + OpenFile + Drop>(
 /// leads to it.
 fn is_alone<R: Files>(rt: &R, path: &str) -> io::Result<bool> {
     let found = fs::symlink_metadata(rt, path)?;
-    Ok(!found.is_symlink() && found.nlink() == 1)
+    Ok(!found.is_symlink() && found.nlink() <= 1)
 }
 
 /// The first bytes of a regular file, at most so many; of one that has no other name, if only that
