@@ -839,7 +839,7 @@ class Checks:
         bodies = [json.dumps({"jsonrpc": "2.0", **message}) for message in messages]
         given = "".join(f"Content-Length: {len(body)}\r\n\r\n{body}" for body in bodies)
         status, out, said = self.run(["lsp"], given.encode())
-        self.expect("a server", (status, said, out.count(b"linked.c")), (0, b"", 1))
+        self.expect("a server", (status, said, out.count(b"linked.c")), (0, b"", 0))
         for name in (b"pipe.c", b"zero.c"):
             shown = out.count(b"cbrowse: %s: cannot be read" % name)
             self.expect(["a server", name], shown, 1)
