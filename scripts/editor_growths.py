@@ -6,9 +6,9 @@ message had not been sent. After a log, and after a show of the URI of a documen
 a body that is not JSON had been sent: the open documents are out of date. After a show of the
 file's name it goes on as if the text had been too large, and of a document that was closed, as if
 it had been saved before; one that was opened may not be open then either, and a file that was
-deleted or written stays as it was. A show of a file's name before a reply says that the file was not
-read again for it; the reply is as ever, since the file is as it was. So runs in which nothing is
-refused give each outcome that may be. At the start the program says that memory was refused, and
+deleted or written stays as it was. A show of a file's name before a reply says that the file was
+not read again for it; the reply is as ever, since the file is as it was. So runs in which nothing
+is refused give each outcome that may be. At the start the program says that memory was refused, and
 ends.
 """
 
