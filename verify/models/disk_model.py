@@ -11,7 +11,7 @@ import os
 import pathlib
 from typing import NamedTuple, Optional
 
-GONE, UNREADABLE = object(), object()  # no file of a path; one that has no text
+GONE, LINKED, UNREADABLE = object(), object(), object()  # no file; one of two names; no text
 
 
 class Link(NamedTuple):
@@ -65,13 +65,13 @@ class Disk:
         return not isinstance(there, Link) and [*self.at.values()].count(there) == 1
 
     def read(self, path, alone=False):
-        """The text of a file. Where only a file alone will do, none is found under two names."""
+        """The text of a file, or that it has two names, where only a file alone will do."""
         there = self.at.get(self.end_of(path))
         if there is None:
             return GONE
         if not isinstance(there, int):
             return UNREADABLE
-        return GONE if alone and not self.is_alone(path) else self.texts[there]
+        return LINKED if alone and not self.is_alone(path) else self.texts[there]
 
     # ---- what is written
 

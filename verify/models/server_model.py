@@ -16,7 +16,7 @@ from typing import Callable, NamedTuple, Optional
 
 import text_model
 import wide_model
-from disk_model import GONE, UNREADABLE, Disk
+from disk_model import GONE, LINKED, UNREADABLE, Disk
 from session_model import Bounds, Outcome, Refused, World, drop, is_file_name, load, reload, told
 from text_model import RESERVED, cut_lines, header, parts_of
 
@@ -722,7 +722,7 @@ class Server:
 
     def give(self, name, found):
         """Gives a file the text that is found, if there is one."""
-        if found is GONE:
+        if found in (GONE, LINKED):
             return
         refusal = b"cannot be read" if found is UNREADABLE else self.store(name, found)
         if refusal is not None:
@@ -937,14 +937,21 @@ class Server:
             if it == file if file in private else it not in private:
                 uses[it] = [use.place for use in found if use.name == name]
         files = [it for it, places in uses.items() if places]
+        all_open = all(it in self.documents for it in files)
         for it in files:
             if not self.may_edit(it):
                 raise Error(-32803, quoted(b"not open: " + it)[1:-1])
+            if it in self.documents and not all_open and self.read_alone(it) is LINKED:
+                raise Error(-32803, quoted(b"open under a second name: " + it)[1:-1])
         edits = [
             b"%s:%s" % (quoted(self.root.uri_of(it)), self.edits(it, uses[it], name, new))
             for it in files
         ]
         return b'{"changes":{%s}}' % b",".join(edits)
+
+    def read_alone(self, file):
+        """What is found of a file that may have no second name."""
+        return self.disk.read(self.root.path_of(file), alone=True)
 
     def may_edit(self, file):
         """Whether an editor makes the edits of a file where they belong: the file is below the
@@ -955,8 +962,7 @@ class Server:
         if file in self.documents:
             return not self.documents[file].is_lost
         text = self.world.files[file]
-        found = self.disk.read(self.root.path_of(file), alone=True)
-        return found == text and is_counted_alike(text)
+        return self.read_alone(file) == text and is_counted_alike(text)
 
     def edits(self, file, places, name, new):
         return listed(

@@ -33,7 +33,7 @@ use Rattle.cb_lsp.specs.Documents.{as_lost, behind_event, first_refusal, later, 
 use Rattle.cb_lsp.specs.Documents.{opened_if, taken, was_lost}
 use Rattle.cb_lsp.specs.Documents.{after_step, changed_into, changed_to, document_of, first_found}
 use Rattle.cb_lsp.specs.Documents.{given, given_found, gone, holds, if_open, is_named, is_open}
-use Rattle.cb_lsp.specs.Documents.{kept_from, kept_text, lost, no_room, nothing}
+use Rattle.cb_lsp.specs.Documents.{kept_from, kept_text, linked, lost, no_room, nothing}
 use Rattle.cb_lsp.specs.Documents.{present, removed, renewed, saved_as, text_of_document, text_step}
 use Rattle.cb_lsp.specs.Documents.{text_unless, unreadable, with_document, without}
 use Rattle.cb_lsp.specs.Documents.{without_document}
@@ -462,6 +462,7 @@ module _ (w : Work) (sent : Sent) (good : Good w sent) where
   closes-to : (m : Bool) (name : List ℕ) (f : Reading) (o : Option (List ℕ))
       → Good (given_found f m (without name w) name o).work (with_text name None sent)
   closes-to m name gone o = closes-with m name o
+  closes-to m name linked o = drop-good name w.world (λ n other. refl)
   closes-to m name unreadable o = drop-good name w.world (λ n other. refl)
   closes-to m name no_room o = drop-good name w.world (λ n other. refl)
   closes-to m name (holds bytes) o = closes-with m name (Some bytes)
@@ -540,6 +541,7 @@ module _ (w : Work) (sent : Sent) (good : Good w sent) where
   renews-to : (m : Bool) (name : List ℕ) (f : Reading) → document_of w.documents name ≡ None
       → Good (given_found f m w name None).work sent
   renews-to m name gone none = good
+  renews-to m name linked none = good
   renews-to m name unreadable none = good
   renews-to m name no_room none = good
   renews-to m name (holds bytes) none = renews m name bytes _ refl none
@@ -615,6 +617,7 @@ module _ (s : Serving) (sent : Sent) (good : Good s.work sent) where
   anew-good : (f : Reading) (m : Bool) (name : List ℕ) → is_open s.work.documents name ≡ false
       → Good (given_anew f m s.work name).work sent
   anew-good gone m name h = good
+  anew-good linked m name h = good
   anew-good unreadable m name h = good
   anew-good no_room m name h = good
   anew-good (holds []) m name h = good

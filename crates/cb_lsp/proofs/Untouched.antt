@@ -18,8 +18,9 @@ use Rattle.cb_lsp.specs.declared.server.Stage.TheVariants.{Fresh, Running, Down}
 use Rattle.cb_lsp.specs.Documents.{Document, Oracle, Reading, Work, after_change, after_open}
 use Rattle.cb_lsp.specs.Documents.{after_step, changed_into, changed_to, document_of, first_found}
 use Rattle.cb_lsp.specs.Documents.{first_refusal, given, given_found, gone, holds, if_open, is_open}
-use Rattle.cb_lsp.specs.Documents.{is_renewed, kept_text, later_refusals, no_room, opened_if}
-use Rattle.cb_lsp.specs.Documents.{saved_as, taken, text_of_document, text_step, unreadable, without}
+use Rattle.cb_lsp.specs.Documents.{is_renewed, kept_text, later_refusals, linked, no_room}
+use Rattle.cb_lsp.specs.Documents.{opened_if, saved_as, taken, text_of_document, text_step}
+use Rattle.cb_lsp.specs.Documents.{unreadable, without}
 use Rattle.cb_lsp.specs.Messages.{Serving, answered, answered_anew, asked_reply, does, initialized}
 use Rattle.cb_lsp.specs.Messages.{moved, opened_with, out_of_memory, refreshed, refreshed_from}
 use Rattle.cb_lsp.specs.Messages.{replied, replies, requested, running, stays}
@@ -95,6 +96,7 @@ module _ (w : Work) where
   gives-found : (f : Reading) (v : Work) (no_text : Bool) (name : List ℕ) (o : Option (List ℕ))
       → v.world ≡ w.world → LeavesFiles w (given_found f no_text v name o)
   gives-found gone v no_text name o same = gives v no_text name o same
+  gives-found linked v no_text name o same = λ why e. same
   gives-found unreadable v no_text name o same = λ why e. same
   gives-found no_room v no_text name o same = λ why e. same
   gives-found (holds bytes) v no_text name o same = gives v no_text name (Some bytes) same
@@ -146,6 +148,7 @@ steps-documents w (Err why) = refl
 anew-documents : (f : Reading) (no_memory : Bool) (w : Work) (name : List ℕ)
     → (given_anew f no_memory w name).work.documents ≡ w.documents
 anew-documents gone no_memory w name = refl
+anew-documents linked no_memory w name = refl
 anew-documents unreadable no_memory w name = refl
 anew-documents no_room no_memory w name = refl
 anew-documents (holds []) no_memory w name = refl

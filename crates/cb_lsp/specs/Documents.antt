@@ -37,10 +37,11 @@ pub record Told : Type 0 where
   pub work : Work
   pub told : Option (List ℕ)
 
--- what is found where a file is read again: none; one that cannot be read; one for whose bytes
--- memory is refused; or its bytes
+-- what is found where a file is read again: none; a link or a file of two names, where that will not
+-- do; one that cannot be read; one for whose bytes memory is refused; or its bytes
 pub data Reading : Type 0 where
   gone : Reading
+  linked : Reading
   unreadable : Reading
   no_room : Reading
   holds : List ℕ → Reading
@@ -264,9 +265,10 @@ given no_text w name (Some new) =
     after_step w (taken no_text w.world (text_step w.world.files name new))
 
 -- a file is given the text that is found; where there is no file, another one, if there is one;
--- where it cannot be read it stays as it is
+-- where it has two names or cannot be read it stays as it is
 abbrev pub given_found : Reading → Bool → Work → (name : List ℕ) → Option (List ℕ) → Told
 given_found gone no_text w name other = given no_text w name other
+given_found linked no_text w name other = record { work = w; told = None }
 given_found unreadable no_text w name other = record { work = w; told = Some unreadable_text }
 given_found no_room no_text w name other =
     record { work = w; told = Some (text_of OutOfMemory) }

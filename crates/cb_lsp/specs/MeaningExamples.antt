@@ -12,10 +12,10 @@ use Rattle.cb_wire.specs.declared.units.Encoding.TheVariants.{Utf16}
 use Rattle.cb_lsp.specs.Clients.{Client}
 use Rattle.cb_lsp.specs.Meaning.{is_private, meaning}
 use Rattle.cb_lsp.specs.Documents.{Document, Looked, Oracle, Reading, Work, document_of, gone}
-use Rattle.cb_lsp.specs.Documents.{holds, no_room, present}
+use Rattle.cb_lsp.specs.Documents.{holds, linked, no_room, present}
 use Rattle.cb_lsp.specs.Names.{is_outside}
 use Rattle.cb_lsp.specs.References.{references}
-use Rattle.cb_lsp.specs.Renames.{checks, files_of, no_memory, not_open, uses_in}
+use Rattle.cb_lsp.specs.Renames.{checks, files_of, no_memory, not_open, second_name, uses_in}
 use Rattle.cb_lsp.specs.Searches.{is_like}
 
 -- the definition of `f` in a file, `static` or not
@@ -156,8 +156,8 @@ work = record {
 }
 
 -- these are found, without a refusal of memory, and one is refused at the first file
-abbrev finding : (first second : Reading) → Oracle
-finding first second = record { refusals = []; found = first ∷ second ∷ [] }
+abbrev finding : List Reading → Oracle
+finding found = record { refusals = []; found = found }
 
 abbrev refusing : Oracle
 refusing = record { refusals = true ∷ []; found = holds (codes "1") ∷ [] }
@@ -175,22 +175,31 @@ client = record {
 abbrev found_at : (path : List ℕ) → Reading → Looked
 found_at path found = record { path = path; most = 1000001; alone = true; found = found }
 
--- what is open is edited, and what is not is read
-pub one_is_open : checks (finding gone gone) client work (codes "a.c" ∷ [])
+-- what is open is edited
+pub one_is_open : checks (finding []) client work true (codes "a.c" ∷ [])
     ≡ record { why = None; read = [] }
 unfolding document_of checks
 one_is_open = refl
 
-pub one_was_changed : checks (finding (holds (codes "2")) gone) client work open_and_closed
-    ≡ record {
+-- where a file is not, each is read; one that is open need not be there, but has no second name
+pub one_was_changed : checks (finding (gone ∷ holds (codes "2") ∷ [])) client work false
+    open_and_closed ≡ record {
       why = Some (not_open (codes "c.c"));
-      read = found_at (codes "/w/c.c") (holds (codes "2")) ∷ [];
+      read = found_at (codes "/w/a.c") gone ∷ found_at (codes "/w/c.c") (holds (codes "2")) ∷ [];
     }
 unfolding document_of checks text_of_file
 one_was_changed = refl
 
+pub one_has_a_second_name : checks (finding (linked ∷ [])) client work false open_and_closed
+    ≡ record {
+      why = Some (second_name (codes "a.c"));
+      read = found_at (codes "/w/a.c") linked ∷ [];
+    }
+unfolding document_of checks
+one_has_a_second_name = refl
+
 -- nothing outside the root is edited, and it is not looked at
-pub one_is_outside : checks (finding gone gone) client work (codes "/v/e.c" ∷ open_and_closed)
+pub one_is_outside : checks (finding []) client work false (codes "/v/e.c" ∷ open_and_closed)
     ≡ record { why = Some (not_open (codes "/v/e.c")); read = [] }
 unfolding checks
 one_is_outside = refl
@@ -202,24 +211,26 @@ pub names_are_outside : map is_outside (codes "/w/c.c" ∷ codes "./c.c" ∷ cod
 names_are_outside = refl
 
 -- nothing is read behind a file that is not edited
-pub one_is_gone : checks (finding gone (holds (codes "22"))) client work open_and_closed ≡ record {
-  why = Some (not_open (codes "c.c"));
-  read = found_at (codes "/w/c.c") gone ∷ [];
-}
+pub one_is_gone : checks (finding (holds [] ∷ gone ∷ holds (codes "22") ∷ [])) client work false
+    open_and_closed ≡ record {
+      why = Some (not_open (codes "c.c"));
+      read = found_at (codes "/w/a.c") (holds []) ∷ found_at (codes "/w/c.c") gone ∷ [];
+    }
 unfolding document_of checks text_of_file
 one_is_gone = refl
 
-pub no_room_for_its_bytes : (checks (finding no_room gone) client work open_and_closed).why
-    ≡ Some no_memory
+pub no_room_for_its_bytes : (checks (finding (gone ∷ no_room ∷ [])) client work false
+    open_and_closed).why ≡ Some no_memory
 unfolding document_of checks text_of_file
 no_room_for_its_bytes = refl
 
-pub no_memory_for_its_path : (checks refusing client work open_and_closed).why ≡ Some no_memory
+pub no_memory_for_its_path : (checks refusing client work false open_and_closed).why
+    ≡ Some no_memory
 unfolding document_of checks text_of_file
 no_memory_for_its_path = refl
 
 -- what the disk has of a document does not count
-pub one_is_lost : checks (finding (holds (codes "1")) (holds (codes "22"))) client work
+pub one_is_lost : checks (finding (holds (codes "1") ∷ [])) client work false
     (codes "b.c" ∷ open_and_closed) ≡ record { why = Some (not_open (codes "b.c")); read = [] }
 unfolding document_of checks text_of_file
 one_is_lost = refl

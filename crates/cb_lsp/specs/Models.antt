@@ -7,10 +7,10 @@ use Rattle.cb_lsp.specs.Changes.{TextChange, part, whole}
 use Rattle.cb_lsp.specs.declared.documents.Kept.{Kept as CodeKept}
 use Rattle.cb_lsp.specs.declared.documents.Kept.TheVariants.{Nothing, Present, Text}
 use Rattle.cb_lsp.specs.declared.disk.Found.{Found as CodeFound}
-use Rattle.cb_lsp.specs.declared.disk.Found.TheVariants.{Gone as CodeGone, Unreadable, NoRoom}
-use Rattle.cb_lsp.specs.declared.disk.Found.TheVariants.{Holds}
-use Rattle.cb_lsp.specs.Documents.{Reading, Kept, gone, holds, no_room, nothing, present, text}
-use Rattle.cb_lsp.specs.Documents.{unreadable}
+use Rattle.cb_lsp.specs.declared.disk.Found.TheVariants.{Gone as CodeGone, Linked, Unreadable}
+use Rattle.cb_lsp.specs.declared.disk.Found.TheVariants.{Holds, NoRoom}
+use Rattle.cb_lsp.specs.Documents.{Reading, Kept, gone, holds, linked, no_room, nothing}
+use Rattle.cb_lsp.specs.Documents.{present, text, unreadable}
 use Rattle.cb_lsp.specs.declared.question.Question.{Question}
 use Rattle.cb_lsp.specs.declared.question.Question.TheVariants.{Folds, InFile, Incoming, Outgoing}
 use Rattle.cb_lsp.specs.declared.question.Question.TheVariants.{Rename, WorkspaceSymbols}
@@ -48,6 +48,7 @@ change_seen (Part range new) = part range new.now
 -- what is found of a file
 abbrev pub found_in : CodeFound → Reading
 found_in CodeGone = gone
+found_in Linked = linked
 found_in Unreadable = unreadable
 found_in NoRoom = no_room
 found_in (Holds bytes) = holds bytes.items

@@ -12,8 +12,8 @@ use Rattle.cb_wire.specs.declared.position.Position.{Position}
 use Rattle.cb_wire.specs.Positions.{place}
 use Rattle.cb_lsp.specs.Answers.{name_of_uri}
 use Rattle.cb_lsp.specs.Clients.{Client}
-use Rattle.cb_lsp.specs.Documents.{Reading, Told, Work, given, given_found, gone, holds, no_room}
-use Rattle.cb_lsp.specs.Documents.{unreadable}
+use Rattle.cb_lsp.specs.Documents.{Reading, Told, Work, given, given_found, gone, holds, linked}
+use Rattle.cb_lsp.specs.Documents.{no_room, unreadable}
 use Rattle.cb_lsp.specs.Questions.{Asked, folds, in_file, incoming, outgoing, rename}
 use Rattle.cb_lsp.specs.Questions.{workspace_symbols}
 use Rattle.cb_lsp.specs.Words.{word_at}
@@ -92,6 +92,7 @@ files_asked c w asked = let sought = sought_by c w asked in files_with w sought.
 -- about to write it, and one that has its text; it is given another text
 abbrev pub given_anew : Reading → Bool → Work → (name : List ℕ) → Told
 given_anew gone no_text w name = record { work = w; told = None }
+given_anew linked no_text w name = record { work = w; told = None }
 given_anew unreadable no_text w name = record { work = w; told = None }
 given_anew no_room no_text w name = given_found no_room no_text w name None
 given_anew (holds []) no_text w name = record { work = w; told = None }

@@ -1,9 +1,9 @@
 -- What is renamed: the uses of a name in its reach, where the editor has the text of each of their
 -- files.
-use Rattle.std.specs.Prelude.{ℕ, Bool, true, false, ◌&&◌, ◌++◌, ◌==◌, not, List, [], ◌∷◌}
+use Rattle.std.specs.Prelude.{ℕ, Bool, true, false, ◌&&◌, ◌||◌, ◌++◌, ◌==◌, not, List, [], ◌∷◌}
 use Rattle.std.specs.Prelude.{codes, filter, map, length, ◌+◌, take, Option, None, Some, Result, Ok}
 use Rattle.std.specs.Prelude.{Err, if◌then◌else◌}
-use Rattle.std.specs.List.{list_any}
+use Rattle.std.specs.List.{list_all, list_any}
 use Rattle.std.specs.Str.{bytes_eq}
 use Rattle.json.specs.Json.{Json, null}
 use Rattle.cb_desk.specs.World.{File, World, has_file, text_of_file}
@@ -22,8 +22,8 @@ use Rattle.cb_wire.specs.Uris.{path_below, uri_of}
 use Rattle.cb_wire.specs.Values.{range_tree}
 use Rattle.cb_lsp.specs.Clients.{Client}
 use Rattle.cb_lsp.specs.Documents.{Document, Looked, Oracle, Reading, Work, behind_reading}
-use Rattle.cb_lsp.specs.Documents.{document_of, first_found, first_refusal, gone, holds, is_open}
-use Rattle.cb_lsp.specs.Documents.{looked_by, no_room, unreadable, was_lost}
+use Rattle.cb_lsp.specs.Documents.{document_of, first_found, first_refusal, holds, is_open}
+use Rattle.cb_lsp.specs.Documents.{linked, looked_by, no_room, was_lost}
 use Rattle.cb_lsp.specs.Alike.{is_counted_alike}
 use Rattle.cb_lsp.specs.Names.{is_outside}
 use Rattle.cb_lsp.specs.Places.{range_of}
@@ -68,7 +68,9 @@ pub data Unrenamed : Type 0 where
   used_already : Unrenamed
   -- a file would have to be edited whose text the editor may not have
   not_open : (file : List ℕ) → Unrenamed
-  -- memory was refused where such a file was read again
+  -- one that is open may be another one of the files, which the editor would edit twice
+  second_name : (file : List ℕ) → Unrenamed
+  -- memory was refused where a file was read again
   no_memory : Unrenamed
 
 abbrev pub unrenamed_text : Unrenamed → List ℕ
@@ -76,6 +78,7 @@ unrenamed_text no_definition = codes "no such definition"
 unrenamed_text bad_name = codes "bad name"
 unrenamed_text used_already = codes "name is used already"
 unrenamed_text (not_open file) = codes "not open: " ++ file
+unrenamed_text (second_name file) = codes "open under a second name: " ++ file
 unrenamed_text no_memory = codes "out of memory"
 
 -- ---- the uses that are renamed
@@ -117,49 +120,47 @@ all_edits c files new us =
 
 -- ---- the files that are edited
 
--- why a file that is open is not edited, if so: its last text was refused
-abbrev pub unless_lost : (is_lost : Bool) → (file : List ℕ) → Option Unrenamed
-unless_lost true file = Some (not_open file)
-unless_lost false file = None
+-- a file outside the root is never edited, and no document that is out of date
+abbrev pub is_never_edited : List Document → (file : List ℕ) → Bool
+is_never_edited ds file = is_outside file || was_lost (document_of ds file)
 
--- why one of this text is not edited, if so, which is not open and is read again: another text is
--- found, or none, or memory is refused to its bytes
+-- why a file of this text is not edited that is not open, if so, by what is found of it: a second
+-- name, another text or none, or memory is refused to its bytes
 abbrev pub unless_found : (file text : List ℕ) → Reading → Option Unrenamed
-unless_found file text gone = Some (not_open file)
-unless_found file text unreadable = Some (not_open file)
 unless_found file text no_room = Some no_memory
 unless_found file text (holds found) =
     if bytes_eq found text && is_counted_alike text then None else Some (not_open file)
+unless_found file text _ = Some (not_open file)
+
+-- why one that is open is not, if so: it is found under a second name
+abbrev pub unless_linked : (file : List ℕ) → Reading → Option Unrenamed
+unless_linked file linked = Some (second_name file)
+unless_linked file _ = None
 
 -- a file is looked at: why it is not edited, if so, and what was read for that
 pub record Check : Type 0 where
   pub why : Option Unrenamed
   pub read : List Looked
 
--- one that is read at a path, where it has no other name: an editor would make the edits of both
--- names in one text. Memory may be refused to the path
-abbrev pub check_read : Oracle → World → (path file : List ℕ) → Check
+-- it is read at a path, where it has no other name: an editor would make the edits of both names in
+-- one text. Memory may be refused to the path
+abbrev pub check_read : Oracle → Work → (path file : List ℕ) → Check
 check_read o w path file =
+    let found = first_found o.found in
     if first_refusal o.refusals then record { why = Some no_memory; read = [] }
     else record {
-      why = unless_found file (text_of_file w.files file) (first_found o.found);
-      read = looked_by true w path (first_found o.found) ∷ [];
+      why =
+          if is_open w.documents file then unless_linked file found
+          else unless_found file (text_of_file w.world.files file) found;
+      read = looked_by true w.world path found ∷ [];
     }
 
-abbrev pub check_open : List Document → (file : List ℕ) → Check
-check_open ds file =
-    record { why = unless_lost (was_lost (document_of ds file)) file; read = [] }
-
--- a file outside the root is never edited
-abbrev pub check : Oracle → Client → Work → (file : List ℕ) → Check
-check o c w file =
-    if is_outside file then record { why = Some (not_open file); read = [] }
-    else (if is_open w.documents file then check_open w.documents file
-    else check_read o w.world (path_below c.root.path file) file)
-
--- what is decided behind a file, which is read once, unless it is open
-abbrev pub behind_file : List Document → List ℕ → Oracle → Oracle
-behind_file ds file o = if is_open ds file then o else behind_reading o
+-- where all files are open, none is read
+abbrev pub check : Oracle → Client → Work → (all_open : Bool) → (file : List ℕ) → Check
+check o c w all_open file =
+    if is_never_edited w.documents file then record { why = Some (not_open file); read = [] }
+    else (if all_open then record { why = None; read = [] }
+    else check_read o w (path_below c.root.path file) file)
 
 -- files one after another, up to the first one that is not edited
 abbrev pub check_more : (read : List Looked) → Option Unrenamed → Check → Check
@@ -169,10 +170,18 @@ check_more read (Some why) more = record { why = Some why; read = read }
 abbrev pub then_check : Check → Check → Check
 then_check first more = check_more first.read first.why more
 
-unfoldable pub checks : Oracle → Client → Work → List (List ℕ) → Check
-checks o c w [] = record { why = None; read = [] }
-checks o c w (file ∷ files) =
-    then_check (check o c w file) (checks (behind_file w.documents file o) c w files)
+-- for each of them it is decided what is found, whether it is read or not
+unfoldable pub checks : Oracle → Client → Work → (all_open : Bool) → List (List ℕ) → Check
+checks o c w all_open [] = record { why = None; read = [] }
+checks o c w all_open (file ∷ files) =
+    then_check (check o c w all_open file) (checks (behind_reading o) c w all_open files)
+
+-- the files of uses
+abbrev pub are_open : List Document → List Fact → Bool
+are_open ds us = list_all (λ (u : Fact). is_open ds u.file) us
+
+abbrev pub checked : Oracle → Client → Work → List Fact → Check
+checked o c w us = checks o c w (are_open w.documents us) (files_of us)
 
 -- ---- all of it
 
@@ -198,7 +207,7 @@ renamed_if c files new us k = record {
 }
 
 abbrev pub renamed_all : Oracle → Client → Work → (new : List ℕ) → List Fact → Answered
-renamed_all o c w new us = renamed_if c w.world.files new us (checks o c w (files_of us))
+renamed_all o c w new us = renamed_if c w.world.files new us (checked o c w us)
 
 abbrev pub is_some_use : List Fact → Bool
 is_some_use [] = false

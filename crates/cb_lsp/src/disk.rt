@@ -13,6 +13,8 @@ use std::alloc::Global;
 pub enum Found {
     /// No file.
     Gone,
+    /// A link, or a file that has a second name, where only a file alone will do.
+    Linked,
     /// A file that cannot be read.
     Unreadable,
     /// A file for whose bytes memory is refused.
@@ -27,8 +29,8 @@ pub trait Disk {
     /// has this finding.
     ghost finds: { Self → Looked → Type 0 };
 
-    /// The first bytes of the file of a path, at most so many. Where only a file alone will do,
-    /// none is found at a link, and none that has a second name.
+    /// The first bytes of the file of a path, at most so many. Where only a file alone will do, a
+    /// link is not followed, and a file that has a second name is not read.
     fn read(&self, alloc: Global, path: &[u8], most: u64, alone: bool) -> Found
         requires { most < 2 ^ 33 }
         ensures { finds self.now (record {

@@ -12,12 +12,12 @@ ghost use Rattle.cb_wire.specs.Trees.{result_reply};
 ghost use Rattle.cb_wire.specs.Values.{value_text};
 ghost use Rattle.cb_lsp.specs.Answers.{answer_reply, reply_with};
 ghost use Rattle.cb_lsp.specs.Bodies.{Replies};
-ghost use Rattle.cb_lsp.specs.Documents.{Oracle, Reading, document_of, was_lost};
+ghost use Rattle.cb_lsp.specs.Documents.{Oracle, Reading};
 ghost use Rattle.cb_lsp.specs.Models.{found_in};
 ghost use Rattle.cb_lsp.specs.Names.{is_outside, leads_down};
-ghost use Rattle.cb_lsp.specs.Renames.{all_edits, check, checks, files_of, is_some_use};
-ghost use Rattle.cb_lsp.specs.Renames.{renamable_at, renamed_all, renamed_uses, renamed_word};
-ghost use Rattle.cb_lsp.specs.Renames.{unless_found, unless_lost};
+ghost use Rattle.cb_lsp.specs.Renames.{all_edits, are_open, check, checked, is_never_edited};
+ghost use Rattle.cb_lsp.specs.Renames.{is_some_use, renamable_at, renamed_all, renamed_uses};
+ghost use Rattle.cb_lsp.specs.Renames.{renamed_word, unless_found, unless_linked};
 ghost use Rattle.cb_lsp.specs.steps.Located.{client_in};
 ghost use Rattle.cb_lsp.specs.steps.References.{UsesAreByPlace, reached_left};
 ghost use Rattle.cb_lsp.specs.steps.Renames.{check_if, edits_left, is_last_of, reason_of, work_in};
@@ -31,7 +31,7 @@ use crate::documents::Documents;
 use crate::location::Located;
 use crate::place::bytes_of;
 use crate::reach::Reached;
-use crate::written::{put_failure, put_not_open, put_refusal};
+use crate::written::{put_failure, put_not_open, put_refusal, put_second_name};
 use cb_desk::Desk;
 use cb_scan::{Span, is_name};
 use cb_tags::{Sink, WriteFault};
@@ -108,6 +108,8 @@ impl<'a, 'p> Elements for UseEdits<'a, 'p> {
 enum Unedited<'a> {
     /// The editor may have another text than the server.
     NotOpen(&'a [u8]),
+    /// The editor has it open under a second name.
+    SecondName(&'a [u8]),
     /// Memory was refused where it was read again.
     NoMemory,
 }
@@ -123,6 +125,7 @@ fn put_unedited<W: Write>(
 {
     match why {
         Unedited::NotOpen(file) => put_not_open(out, id, file),
+        Unedited::SecondName(file) => put_second_name(out, id, file),
         Unedited::NoMemory => put_refusal(out, id),
     }
 }
@@ -195,34 +198,45 @@ impl<'a> Renaming<'a> {
             }
             Found::NoRoom => Some(Unedited::NoMemory),
             Found::Gone => Some(Unedited::NotOpen(file)),
+            Found::Linked => Some(Unedited::NotOpen(file)),
             Found::Unreadable => Some(Unedited::NotOpen(file)),
         }
     }
 
-    /// Why a file that is open is not edited.
-    fn unless_lost(&self, file: &'a [u8]) -> Option<Unedited<'a>>
-        ensures { option_map reason_of result ≡ unless_lost
-            (was_lost (document_of (work_in self.now).documents file.entry.now)) file.entry.now }
+    /// Why a file that is open is not edited, by what is found of it.
+    fn unless_linked(&self, file: &'a [u8], found: Found) -> Option<Unedited<'a>>
+        ensures { option_map reason_of result ≡ unless_linked file.entry.now (found_in found) }
     {
-        if self.documents.is_lost(file) {
-            Some(Unedited::NotOpen(file))
-        } else {
-            None
+        match found {
+            Found::Linked => Some(Unedited::SecondName(file)),
+            _ => None,
         }
     }
 
-    /// Why a file is not edited: it is outside the root, or its text may be another one. One that is
-    /// not open is read again.
-    fn unedited<D: Disk>(&self, alloc: Global, disk: &D, file: &'a [u8]) -> Option<Unedited<'a>>
+    /// Whether a file is outside the root, or out of date.
+    fn is_never_edited(&self, file: &[u8]) -> bool
+        ensures { result ≡ is_never_edited (work_in self.now).documents file.now }
+    {
+        is_outside(file) || self.documents.is_lost(file)
+    }
+
+    /// Why a file is not edited. It is read again, unless all files are open.
+    fn unedited<D: Disk>(
+        &self,
+        alloc: Global,
+        disk: &D,
+        all_open: bool,
+        file: &'a [u8],
+    ) -> Option<Unedited<'a>>
         ensures { (no_path : Bool) × (found : Reading) × ComesTo (D.finds disk.now)
             (check (one_change no_path found) (client_in self.now.asked.forms) (work_in self.now)
-            file.entry.now) result }
+            all_open file.entry.now) result }
     {
-        if is_outside(file) {
+        if self.is_never_edited(file) {
             return Some(Unedited::NotOpen(file));
         }
-        if self.documents.is_open(file) {
-            return self.unless_lost(file);
+        if all_open {
+            return None;
         }
         let path = match self.asked.forms.root.path_of(alloc, file) {
             Ok(path) => path,
@@ -230,7 +244,11 @@ impl<'a> Renaming<'a> {
         };
         let most = most_read(self.asked.desk);
         let found = disk.read(alloc, path.as_slice(), most, true);
-        self.unless_found(file, found)
+        if self.documents.is_open(file) {
+            self.unless_linked(file, found)
+        } else {
+            self.unless_found(file, found)
+        }
     }
 
     /// The same for the file of a use, if it is the first one of its file.
@@ -238,18 +256,32 @@ impl<'a> Renaming<'a> {
         &self,
         alloc: Global,
         disk: &D,
+        all_open: bool,
         opens: bool,
         file: &'a [u8],
     ) -> Option<Unedited<'a>>
         ensures { (no_path : Bool) × (found : Reading) × ComesTo (D.finds disk.now)
             (check_if opens (one_change no_path found) (client_in self.now.asked.forms)
-            (work_in self.now) file.entry.now) result }
+            (work_in self.now) all_open file.entry.now) result }
     {
         if opens {
-            self.unedited(alloc, disk, file)
+            self.unedited(alloc, disk, all_open, file)
         } else {
             None
         }
+    }
+
+    /// Whether the files of uses are open.
+    fn are_open(&self, uses: Reached<'a, '_>) -> bool
+        ensures { result ≡ are_open (work_in self.now).documents (reached_left uses.entry) }
+    {
+        let mut left = uses;
+        'uses: while let Some(spot) = left.next() {
+            if !self.documents.is_open(spot.file) {
+                return false;
+            }
+        }
+        true
     }
 
     /// Why the first file that is not edited is not.
@@ -260,14 +292,14 @@ impl<'a> Renaming<'a> {
         uses: Reached<'a, '_>,
     ) -> Option<Unedited<'a>>
         requires { UsesAreByPlace (reached_left uses) }
-        ensures { (o : Oracle) × ComesTo (D.finds disk.now) (checks o
-            (client_in self.now.asked.forms) (work_in self.now)
-            (files_of (reached_left uses.entry))) result }
+        ensures { (o : Oracle) × ComesTo (D.finds disk.now) (checked o
+            (client_in self.now.asked.forms) (work_in self.now) (reached_left uses.entry)) result }
     {
+        let all_open = self.are_open(uses.again());
         let mut left = uses;
         let mut opens = true;
         'uses: while let Some(spot) = left.next() {
-            match self.unedited_if(alloc, disk, opens, spot.file) {
+            match self.unedited_if(alloc, disk, all_open, opens, spot.file) {
                 Some(why) => return Some(why),
                 None => opens = is_last_of(spot.file, 1, &left),
             }

@@ -314,6 +314,7 @@ impl Workspace {
     {
         match found {
             Found::Gone => self.give(alloc, name, other),
+            Found::Linked => None,
             Found::Unreadable => Some("cannot be read"),
             Found::NoRoom => Some(Refusal::OutOfMemory.text()),
             Found::Holds(text) => self.give(alloc, name, Some(text)),
@@ -387,6 +388,7 @@ impl Workspace {
     {
         match found {
             Found::Gone => None,
+            Found::Linked => None,
             Found::Unreadable => None,
             Found::NoRoom => self.give_found(alloc, name, Found::NoRoom, None),
             Found::Holds(text) => self.give_other(alloc, name, text),

@@ -9,7 +9,7 @@ ghost use Rattle.cb_wire.specs.Trees.{error_reply, result_reply};
 ghost use Rattle.cb_wire.specs.Uris.{escaped};
 ghost use Rattle.cb_wire.specs.Values.{value_text};
 ghost use Rattle.cb_lsp.specs.Answers.{answer_reply};
-ghost use Rattle.cb_lsp.specs.Renames.{not_open};
+ghost use Rattle.cb_lsp.specs.Renames.{not_open, second_name};
 ghost use Rattle.cb_lsp.specs.Messages.{log_of, out_of_memory, out_of_memory_reply, show_if};
 ghost use Rattle.cb_lsp.specs.Messages.{show_of, unasked_reply};
 ghost use Rattle.cb_lsp.specs.Bodies.{written_text};
@@ -108,6 +108,19 @@ pub(crate) fn put_not_open<W: Write>(
         (frame (value_text (answer_reply (id_json id.entry) (Err (not_open file.now))))) }
 {
     put_error(out, id, ErrorCode::RequestFailed, b"not open: ", file)
+}
+
+/// Writes that a file is open under a second name, which would have to be edited.
+pub(crate) fn put_second_name<W: Write>(
+    out: &mut Sink<W>,
+    id: Id<'_>,
+    file: &[u8],
+) -> Result<(), WriteFault>
+    ensures { Puts out.old out.new result
+        (frame (value_text (answer_reply (id_json id.entry) (Err (second_name file.now))))) }
+{
+    let text = b"open under a second name: ";
+    put_error(out, id, ErrorCode::RequestFailed, text, file)
 }
 
 /// Writes a text to the log of the client.

@@ -1,7 +1,7 @@
 -- The files of a process: what is found, what is seen of them, and what is done to them by name.
 use Rattle.std.specs.Prelude.{◌≡◌, ◌⊎◌, ℕ, false, List, [], ◌∷◌, Option}
 use Rattle.cb_desk.specs.World.{File}
-use Rattle.cb_lsp.specs.Documents.{Looked, Reading, gone, holds, unreadable}
+use Rattle.cb_lsp.specs.Documents.{Looked, Reading, gone, holds, linked, unreadable}
 use Rattle.cbrowse.specs.declared.execute.storage.Seen.{Seen}
 
 -- what is seen: what stands under a name, if anything does; with which bytes a file begins, of which
@@ -45,7 +45,8 @@ looks name most found = record { path = name; most = most; alone = false; found 
 abbrev pub IsFound : (Looked → Type 0) → (most : ℕ) → File → Type 0
 IsFound finds most f = finds (looks f.name most (holds f.bytes))
 
--- a file is not there, or cannot be read
+-- a file is not there, may not be read under a second name, or cannot be read
 abbrev pub IsUnreadable : (Looked → Type 0) → (most : ℕ) → (name : List ℕ) → Type 0
 IsUnreadable finds most name =
-    finds (looks name most gone) ⊎ finds (looks name most unreadable)
+    finds (looks name most gone) ⊎ (finds (looks name most linked)
+    ⊎ finds (looks name most unreadable))

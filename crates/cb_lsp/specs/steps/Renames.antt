@@ -9,12 +9,12 @@ use Rattle.cb_index.specs.Rows.{Fact}
 use Rattle.cb_wire.specs.Edits.{edit_text}
 use Rattle.cb_wire.specs.Uris.{uri_of}
 use Rattle.cb_lsp.specs.Clients.{Client}
-use Rattle.cb_lsp.specs.Documents.{Document, Looked, Oracle, Work}
-use Rattle.cb_lsp.specs.Renames.{Check, Unrenamed, behind_file, check, no_memory, not_open}
-use Rattle.cb_lsp.specs.Renames.{then_check, use_edit}
+use Rattle.cb_lsp.specs.Documents.{Looked, Oracle, Work, behind_reading}
+use Rattle.cb_lsp.specs.Renames.{Check, Unrenamed, check, no_memory, not_open}
+use Rattle.cb_lsp.specs.Renames.{second_name, then_check, use_edit}
 use Rattle.cb_lsp.specs.declared.rename.Renaming.{Renaming}
 use Rattle.cb_lsp.specs.declared.rename.Unedited.{Unedited}
-use Rattle.cb_lsp.specs.declared.rename.Unedited.TheVariants.{NoMemory, NotOpen}
+use Rattle.cb_lsp.specs.declared.rename.Unedited.TheVariants.{NoMemory, NotOpen, SecondName}
 use Rattle.cb_lsp.specs.declared.rename.UseEdits.{UseEdits}
 use Rattle.cb_lsp.specs.steps.References.{reached_left}
 
@@ -49,6 +49,7 @@ work_in r = record {
 -- a reason is what it is called in the definitions
 abbrev pub reason_of : Unedited → Unrenamed
 reason_of (NotOpen file) = not_open file.now
+reason_of (SecondName file) = second_name file.now
 reason_of NoMemory = no_memory
 
 -- a check comes to this result, and what was read for it is what is found there
@@ -57,16 +58,18 @@ ComesTo finds k result = (option_map reason_of result ≡ k.why) × AllByRecursi
 
 -- the file of a use is looked at, and what is decided behind it: only the first use of a file,
 -- which opens it, counts
-abbrev pub check_if : (opens : Bool) → Oracle → Client → Work → (file : List ℕ) → Check
-check_if opens o c w file =
-    if opens then check o c w file else record { why = None; read = [] }
+abbrev pub check_if : (opens : Bool) → Oracle → Client → Work → (all_open : Bool)
+    → (file : List ℕ) → Check
+check_if opens o c w all_open file =
+    if opens then check o c w all_open file else record { why = None; read = [] }
 
-abbrev pub behind_if : (opens : Bool) → List Document → (file : List ℕ) → Oracle → Oracle
-behind_if opens ds file o = if opens then behind_file ds file o else o
+abbrev pub behind_if : (opens : Bool) → Oracle → Oracle
+behind_if opens o = if opens then behind_reading o else o
 
 -- the files of uses, use by use, up to the first one that is not edited
-unfoldable pub checks_of_uses : Oracle → Client → Work → (opens : Bool) → List Fact → Check
-checks_of_uses o c w opens [] = record { why = None; read = [] }
-checks_of_uses o c w opens (u ∷ us) =
-    then_check (check_if opens o c w u.file)
-    (checks_of_uses (behind_if opens w.documents u.file o) c w (is_last_of u.file us) us)
+unfoldable pub checks_of_uses : Oracle → Client → Work → (all_open opens : Bool) → List Fact
+    → Check
+checks_of_uses o c w all_open opens [] = record { why = None; read = [] }
+checks_of_uses o c w all_open opens (u ∷ us) =
+    then_check (check_if opens o c w all_open u.file)
+    (checks_of_uses (behind_if opens o) c w all_open (is_last_of u.file us) us)

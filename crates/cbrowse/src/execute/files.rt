@@ -45,7 +45,7 @@ fn read_operand<D: Disk>(
             Err(_) => Err(OUT_OF_MEMORY),
         },
         Found::NoRoom => Err(OUT_OF_MEMORY),
-        Found::Gone | Found::Unreadable => Err(Finish::Unreadable(place)),
+        Found::Gone | Found::Linked | Found::Unreadable => Err(Finish::Unreadable(place)),
     }
 }
 

@@ -59,16 +59,17 @@ fn read_regular<R: Files + AllocGlobal>(
     most: u64,
     path: &str,
     alone: bool,
-) -> io::Result<Vec<u8>>
+) -> io::Result<Found>
     requires { most < 2 ^ 33 }
 {
     if !fs::metadata(rt, path)?.is_file() {
         return Err(io::Error::from(ErrorKind::InvalidInput));
     }
     if alone && !is_alone(rt, path)? {
-        return Err(io::Error::from(ErrorKind::NotFound));
+        return Ok(Found::Linked);
     }
-    read_open(rt.alloc(), most, fs::open(rt, path)?, true)
+    let bytes = read_open(rt.alloc(), most, fs::open(rt, path)?, true)?;
+    Ok(Found::Holds(bytes))
 }
 
 impl<R: Files + AllocGlobal> Disk for Process<'_, R> {
@@ -79,7 +80,7 @@ impl<R: Files + AllocGlobal> Disk for Process<'_, R> {
             return Found::Unreadable;
         };
         match read_regular(self.rt, most, path, alone) {
-            Ok(bytes) => Found::Holds(bytes),
+            Ok(found) => found,
             Err(error) => match error.kind() {
                 ErrorKind::NotFound | ErrorKind::NotADirectory => Found::Gone,
                 ErrorKind::OutOfMemory => Found::NoRoom,

@@ -13,6 +13,12 @@ returns-in-NotOpen g c =
     (frame (value_text (answer_reply (id_json c.args.id) (Err (reason_of w))))))
     (sym c.in-NotOpen.is) c.put_not_open.ensures
 
+pub returns-in-SecondName : goal.returns-in-SecondName
+returns-in-SecondName g c =
+    subst (λ w. Puts c.args.out.now c.put_second_name.new.out c.put_second_name.result
+    (frame (value_text (answer_reply (id_json c.args.id) (Err (reason_of w))))))
+    (sym c.in-SecondName.is) c.put_second_name.ensures
+
 pub returns-in-NoMemory : goal.returns-in-NoMemory
 returns-in-NoMemory g c =
     subst (λ w. Puts c.args.out.now c.put_refusal.new.out c.put_refusal.result

@@ -5,7 +5,7 @@ use Rattle.cb_wire.specs.Messages.{id_json}
 use Rattle.cb_wire.specs.Texts.{frame}
 use Rattle.cb_wire.specs.Trees.{result_reply}
 use Rattle.cb_wire.specs.Values.{value_text}
-use Rattle.cb_lsp.specs.Renames.{all_edits, checks, files_of, renamed_uses}
+use Rattle.cb_lsp.specs.Renames.{all_edits, checked, renamed_uses}
 use Rattle.cb_lsp.specs.steps.Located.{client_in}
 use Rattle.cb_lsp.specs.steps.Renames.{ComesTo, reason_of, work_in}
 use Rattle.cb_lsp.proofs.Unedited.{renamed-none, renamed-so}
@@ -20,9 +20,9 @@ returns-in-Some g c =
     let us = renamed_uses w.world f.asked.name.now f.asked.source.now c.args.word in
     let why = c.in-Some.ensures in (
       why.0,
-      renamed-so finds (checks why.0 cl w (files_of us)) cl w.world.files f.new_name.now us
+      renamed-so finds (checked why.0 cl w us) cl w.world.files f.new_name.now us
           (reason_of c.in-Some.why) (id_json c.args.id) _ _ c.put_unedited.result
-          (subst (λ (vs : List Fact). ComesTo finds (checks why.0 cl w (files_of vs))
+          (subst (λ (vs : List Fact). ComesTo finds (checked why.0 cl w vs)
           (Some c.in-Some.why)) c.uses.ensures.uses why.1) c.put_unedited.ensures,
     )
 
@@ -36,9 +36,9 @@ returns-in-None g c =
     let why = c.in-None.ensures in
     let call = c.put_edits in (
       why.0,
-      renamed-none finds (checks why.0 cl w (files_of us)) cl w.world.files f.new_name.now us
+      renamed-none finds (checked why.0 cl w us) cl w.world.files f.new_name.now us
           (id_json c.args.id) _ _ call.result
-          (subst (λ (vs : List Fact). ComesTo finds (checks why.0 cl w (files_of vs)) None)
+          (subst (λ (vs : List Fact). ComesTo finds (checked why.0 cl w vs) None)
           c.uses.ensures.uses why.1)
           (subst (λ vs. Puts c.args.out.now call.new.out call.result (frame (value_text
           (result_reply (id_json c.args.id) (all_edits cl w.world.files f.new_name.now vs)))))
