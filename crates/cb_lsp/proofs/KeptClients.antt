@@ -13,15 +13,15 @@ use Rattle.cb_lsp.specs.declared.notice.Notice.TheVariants.{Files}
 use Rattle.cb_lsp.specs.Documents.{Oracle, behind_event, first_found, first_refusal, later}
 use Rattle.cb_lsp.specs.Documents.{is_open, later_refusals}
 use Rattle.cb_lsp.specs.Messages.{Serving, all_happened, bad_name, dropped, ends_as_c, happened}
-use Rattle.cb_lsp.specs.Messages.{happened_as}
-use Rattle.cb_lsp.specs.Messages.{happened_at, happened_in, happened_to, is_opening, moved}
-use Rattle.cb_lsp.specs.Messages.{read_behind}
+use Rattle.cb_lsp.specs.Messages.{happened_as, happened_at, happened_in, happened_to, is_opening}
+use Rattle.cb_lsp.specs.Messages.{may_enter, moved, read_behind}
 use Rattle.cb_lsp.specs.Messages.{noticed_as, noticed_if, noticed_of, noticed_on}
 use Rattle.cb_lsp.specs.Messages.{answered, out_of_memory, refreshed, refreshed_from}
 use Rattle.cb_lsp.specs.Messages.{registers, replies, show_of, stays, told_of, unread}
 use Rattle.cb_lsp.specs.Questions.{Asked}
 use Rattle.cb_lsp.specs.declared.question.Unasked.{Unasked}
 use Rattle.cb_lsp.proofs.Refreshed.{answer-keeps}
+use Rattle.cb_lsp.proofs.Untouched.{removed-documents, renewed-documents}
 use Rattle.cb_lsp.specs.Params.{event_of, items_in, member_of, text_in, uri_in}
 
 pub record Keeps (s t : Serving) : Type 0 where
@@ -54,38 +54,60 @@ answered-keeps o s id asked =
 
 -- ---- file events
 
-at-keeps : (kind : FileEvent) (o : Oracle) (s : Serving) (path : Option (List ℕ))
-    → Keeps s (happened_at kind o s path).server
-at-keeps Gone o s None = as-is s
-at-keeps Gone o s (Some path) = record { stage = refl; client = refl }
-at-keeps Written o s None = as-is s
-at-keeps Written o s (Some path) = record { stage = refl; client = refl }
+-- what they leave as it is
+pub record Stays (s t : Serving) : Type 0 where
+  pub stage : t.stage ≡ s.stage
+  pub client : t.client ≡ s.client
+  pub documents : t.work.documents ≡ s.work.documents
 
-to-keeps : (kind : FileEvent) (o : Oracle) (s : Serving) (uri : Option (List ℕ))
-    → Keeps s (happened_to kind o s uri).server
-to-keeps kind o s None = as-is s
-to-keeps kind o s (Some uri) =
-    elim (first_refusal o.refusals) as (λ b. Keeps s (cond b (replies s (unread uri))
+all-as-is : (s : Serving) → Stays s s
+all-as-is s = record { stage = refl; client = refl; documents = refl }
+
+at-stays : (kind : FileEvent) (o : Oracle) (s : Serving) (path : Option (List ℕ))
+    → Stays s (happened_at kind o s path).server
+at-stays Gone o s None = all-as-is s
+at-stays Gone o s (Some path) = record {
+  stage = refl;
+  client = refl;
+  documents =
+      removed-documents (first_refusal o.refusals) s.work (name_below s.client.root.path path);
+}
+at-stays Written o s None = all-as-is s
+at-stays Written o s (Some path) =
+    let name = name_below s.client.root.path path in record {
+      stage = refl;
+      client = refl;
+      documents = renewed-documents o s.work (may_enter path name) name;
+    }
+
+to-stays : (kind : FileEvent) (o : Oracle) (s : Serving) (uri : Option (List ℕ))
+    → Stays s (happened_to kind o s uri).server
+to-stays kind o s None = all-as-is s
+to-stays kind o s (Some uri) =
+    elim (first_refusal o.refusals) as (λ b. Stays s (cond b (replies s (unread uri))
     (happened_at kind (later o) s (path_of uri))).server)
-    [ true ↦ as-is s | false ↦ at-keeps kind (later o) s (path_of uri) ]
+    [ true ↦ all-as-is s | false ↦ at-stays kind (later o) s (path_of uri) ]
 
-event-keeps : (kind : Option FileEvent) (o : Oracle) (s : Serving) (event : Json)
-    → Keeps s (happened_as kind o s event).server
-event-keeps None o s event = as-is s
-event-keeps (Some kind) o s event = to-keeps kind o s (text_in (get (codes "uri") event))
+event-stays : (kind : Option FileEvent) (o : Oracle) (s : Serving) (event : Json)
+    → Stays s (happened_as kind o s event).server
+event-stays None o s event = all-as-is s
+event-stays (Some kind) o s event = to-stays kind o s (text_in (get (codes "uri") event))
 
-all-keep : (o : Oracle) (s : Serving) (events : Items) → Keeps s (all_happened o s events).server
+all-stay : (o : Oracle) (s : Serving) (events : Items) → Stays s (all_happened o s events).server
 unfolding all_happened
-all-keep o s no_items = as-is s
-all-keep o s (item event more) =
-    let first = event-keeps (event_of event) o s event in
-    let next = all-keep (behind_event o) (happened o s event).server more in
-    record { stage = next.stage ∙ first.stage; client = next.client ∙ first.client }
+all-stay o s no_items = all-as-is s
+all-stay o s (item event more) =
+    let first = event-stays (event_of event) o s event in
+    let next = all-stay (behind_event o) (happened o s event).server more in record {
+      stage = next.stage ∙ first.stage;
+      client = next.client ∙ first.client;
+      documents = next.documents ∙ first.documents;
+    }
 
-in-keeps : (o : Oracle) (s : Serving) (events : Option Items)
-    → Keeps s (happened_in o s events).server
-in-keeps o s None = as-is s
-in-keeps o s (Some events) = all-keep o s events
+pub in-stays : (o : Oracle) (s : Serving) (events : Option Items)
+    → Stays s (happened_in o s events).server
+in-stays o s None = all-as-is s
+in-stays o s (Some events) = all-stay o s events
 
 -- ---- notifications
 
@@ -123,7 +145,9 @@ as-keeps Open o s params = of-keeps Open o s params (uri_in params)
 as-keeps Change o s params = of-keeps Change o s params (uri_in params)
 as-keeps Save o s params = of-keeps Save o s params (uri_in params)
 as-keeps Close o s params = of-keeps Close o s params (uri_in params)
-as-keeps Files o s params = in-keeps o s (items_in (member_of (codes "changes") params))
+as-keeps Files o s params =
+    let stays = in-stays o s (items_in (member_of (codes "changes") params)) in
+    record { stage = stays.stage; client = stays.client }
 
 pub notice-keeps : (notice : Option Notice) (o : Oracle) (s : Serving) (params : Option Json)
     → Keeps s (noticed_if notice o s params).server

@@ -24,6 +24,7 @@ pub mod KeptClients
 pub mod Likes
 pub mod LineMarks
 pub mod Listed
+pub mod LostTold
 pub mod ManyTurns
 pub mod Marks
 pub mod NamePlaces

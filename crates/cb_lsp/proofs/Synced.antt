@@ -156,7 +156,7 @@ gone-distinct name (e ∷ es) apart =
     ]) refl
 
 -- the document of a name has that name
-found-name : (ds : List Document) (name : List ℕ) (d : Document) → document_of ds name ≡ Some d
+pub found-name : (ds : List Document) (name : List ℕ) (d : Document) → document_of ds name ≡ Some d
     → d.name ≡ name
 unfolding document_of
 found-name [] name d e = cc

@@ -19,8 +19,8 @@ use Rattle.cb_lsp.specs.Documents.{Document, Oracle, Reading, Work, after_change
 use Rattle.cb_lsp.specs.Documents.{after_step, changed_into, changed_to, document_of, first_found}
 use Rattle.cb_lsp.specs.Documents.{first_refusal, given, given_found, gone, holds, if_open, is_open}
 use Rattle.cb_lsp.specs.Documents.{is_renewed, kept_text, later_refusals, linked, no_room}
-use Rattle.cb_lsp.specs.Documents.{opened_if, saved_as, taken, text_of_document, text_step}
-use Rattle.cb_lsp.specs.Documents.{unreadable, without}
+use Rattle.cb_lsp.specs.Documents.{opened_if, removed, renewed, saved_as, taken, text_of_document}
+use Rattle.cb_lsp.specs.Documents.{text_step, unreadable, without}
 use Rattle.cb_lsp.specs.Messages.{Serving, answered, answered_anew, asked_reply, does, initialized}
 use Rattle.cb_lsp.specs.Messages.{moved, opened_with, out_of_memory, refreshed, refreshed_from}
 use Rattle.cb_lsp.specs.Messages.{replied, replies, requested, running, stays}
@@ -140,7 +140,7 @@ told_of_events_changed_nothing o w may_enter no_memory name = (
 
 -- ---- requests
 
-steps-documents : (w : Work) (r : Result World Refusal)
+pub steps-documents : (w : Work) (r : Result World Refusal)
     → (after_step w r).work.documents ≡ w.documents
 steps-documents w (Ok u) = refl
 steps-documents w (Err why) = refl
@@ -158,6 +158,34 @@ anew-documents (holds (b ∷ bs)) no_memory w name =
     elim (bytes_eq new (text_of_file w.world.files name)) as (λ b.
     (cond b (record { work = w; told = None }) (after_step w r)).work.documents ≡ w.documents)
     [ true ↦ refl | false ↦ steps-documents w r ]
+
+pub found-documents : (f : Reading) (no_text : Bool) (w : Work) (name : List ℕ)
+    (other : Option (List ℕ)) → (given_found f no_text w name other).work.documents ≡ w.documents
+found-documents gone no_text w name None = refl
+found-documents gone no_text w name (Some new) =
+    steps-documents w (taken no_text w.world (text_step w.world.files name new))
+found-documents linked no_text w name other = refl
+found-documents unreadable no_text w name other = refl
+found-documents no_room no_text w name other = refl
+found-documents (holds new) no_text w name other =
+    steps-documents w (taken no_text w.world (text_step w.world.files name new))
+
+pub removed-documents : (m : Bool) (w : Work) (name : List ℕ)
+    → (removed m w name).work.documents ≡ w.documents
+removed-documents m w name =
+    elim (is_open w.documents name || not (has_file w.world.files name)) as (λ b.
+    (cond b (record { work = w; told = None })
+    (after_step w (taken m w.world (unload name)))).work.documents ≡ w.documents)
+    [ true ↦ refl | false ↦ steps-documents w (taken m w.world (unload name)) ]
+
+pub renewed-documents : (o : Oracle) (w : Work) (may_enter : Bool) (name : List ℕ)
+    → (renewed o w may_enter name).work.documents ≡ w.documents
+renewed-documents o w may_enter name =
+    let f = first_found o.found in
+    let m = first_refusal o.refusals in
+    elim (is_renewed w may_enter name) as (λ b. (cond b (given_found f m w name None)
+    (record { work = w; told = None })).work.documents ≡ w.documents)
+    [ true ↦ found-documents f m w name None | false ↦ refl ]
 
 -- a file that is read again leaves the documents as they are
 refreshed-documents : (o : Oracle) (s : Serving) (name : List ℕ)

@@ -1,6 +1,7 @@
 -- What a client has of the documents that it opened, and that the server has the same.
-use Rattle.std.specs.Prelude.{◌≡◌, ◌⊎◌, ℕ, Bool, true, false, List, [], ◌∷◌, Option, None, Some}
-use Rattle.std.specs.List.{AllByRecursion}
+use Rattle.std.specs.Prelude.{◌≡◌, ◌⊎◌, ◌&&◌, ◌++◌, ℕ, Bool, true, false, List, [], ◌∷◌, Option}
+use Rattle.std.specs.Prelude.{None, Some}
+use Rattle.std.specs.List.{AllByRecursion, list_any}
 use Rattle.std.specs.Prelude.{if◌then◌else◌}
 use Rattle.std.specs.Str.{bytes_eq}
 use Rattle.json.specs.Json.{Json}
@@ -15,11 +16,11 @@ use Rattle.cb_lsp.specs.declared.notice.Notice.TheVariants.{Ready, Open, Change,
 use Rattle.cb_lsp.specs.declared.notice.Notice.TheVariants.{Files}
 use Rattle.cb_lsp.specs.declared.server.Stage.{Stage}
 use Rattle.cb_lsp.specs.declared.server.Stage.TheVariants.{Fresh, Running, Down}
-use Rattle.cb_lsp.specs.Documents.{Document, Oracle, Told, Work, document_of, removed}
+use Rattle.cb_lsp.specs.Documents.{Document, Oracle, Told, Work, document_of, is_named, removed}
 use Rattle.cb_lsp.specs.Documents.{renewed}
 use Rattle.cb_lsp.specs.Messages.{Message, Serving, does, fresh_server, not_json, notice_of}
-use Rattle.cb_lsp.specs.Messages.{notification, request, told_of, too_large}
-use Rattle.cb_lsp.specs.Bodies.{Turn, after, refused, taken}
+use Rattle.cb_lsp.specs.Messages.{notification, request, show_of, told_of, too_large}
+use Rattle.cb_lsp.specs.Bodies.{Turn, after, outcome, refused, taken}
 use Rattle.cb_lsp.specs.Params.{changes_in, document_text, uri_in}
 
 -- what a client has of the document of a name, if that is open
@@ -163,3 +164,19 @@ abbrev pub RequestsChangeNothing : Type 0
 RequestsChangeNothing = (o : Oracle) (s : Serving) (id : Json) (method : List ℕ)
     (params : Option Json) → let next = (does o s (request id method params)).server in
     (next.work.documents ≡ s.work.documents) × (s.watches ≡ true → next.work ≡ s.work)
+
+-- ---- what is lost is told
+
+-- a document of this name is lost
+abbrev pub is_lost : List Document → (name : List ℕ) → Bool
+is_lost ds name = list_any (λ d. is_named name d && d.lost) ds
+
+-- the client is told something of the document of a name
+abbrev pub IsTold : (name : List ℕ) → (written : List Json) → Type 0
+IsTold name written = (why : List ℕ) × (before after : List Json)
+    × (written ≡ before ++ (show_of name why ∷ after))
+
+-- each document that a message makes lost is told by its name
+abbrev pub LostAreTold : Type 0
+LostAreTold = (s : Serving) (t : Turn) (name : List ℕ) → is_lost s.work.documents name ≡ false
+    → is_lost (after s t).work.documents name ≡ true → IsTold name (outcome s t).written

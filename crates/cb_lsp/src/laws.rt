@@ -16,7 +16,7 @@ ghost use Rattle.cb_lsp.specs.Exact.{RenamesAreExact};
 ghost use Rattle.cb_lsp.specs.Places.{line_range, range_of, range_of_line, start_of_file};
 ghost use Rattle.cb_lsp.specs.Ranges.{IsInOrder, IsNamedIn, IsUseIn, LiesInside};
 ghost use Rattle.cb_lsp.specs.Searches.{found_by};
-ghost use Rattle.cb_lsp.specs.Sync.{DocumentsStayInSync, RequestsChangeNothing};
+ghost use Rattle.cb_lsp.specs.Sync.{DocumentsStayInSync, LostAreTold, RequestsChangeNothing};
 ghost use Rattle.cb_lsp.specs.Sync.{WhatIsToldChangedNothing, WhatIsToldOfEventsChangedNothing};
 ghost use Rattle.cb_lsp.specs.Words.{word_at};
 ghost use Rattle.cb_lsp.specs.declared.completion.TheConstants.{MOST_COMPLETIONS};
@@ -31,6 +31,12 @@ ghost use Rattle.cb_lsp.specs.declared.symbols.TheConstants.{MOST_SYMBOLS};
 pub fn documents_stay_in_sync()
     ensures bytes { DocumentsStayInSync }
     ensures units { EditorsStayInSync }
+{}
+
+/// Each document that a message makes out of date is told to the client by its name, whatever memory
+/// is refused and also where the body is dropped.
+pub fn lost_documents_are_told()
+    ensures { LostAreTold }
 {}
 
 /// Changes of a text, one after another, lead to the text whose units such an editor has after
