@@ -18,7 +18,7 @@ use Rattle.cb_lsp.specs.Messages.{Message, Outcome, Serving, all_lost, dropped, 
 use Rattle.cb_lsp.specs.steps.Told.{lost_text}
 use Rattle.cb_lsp.specs.steps.Turns.{IsJson, TakesJson, going_on, some_last}
 
-written-after : (first next : List Json)
+pub written-after : (first next : List Json)
     → written_text first ++ written_text next ≡ written_text (first ++ next)
 written-after first next = sym (flat_map-append (λ j. frame (value_text j)) first next)
 

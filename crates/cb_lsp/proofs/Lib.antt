@@ -18,6 +18,7 @@ pub mod Headers
 pub mod HeldUnits
 pub mod HoverTexts
 pub mod Incomings
+pub mod InTurn
 pub mod Items
 pub mod Judged
 pub mod KeptClients

@@ -1,25 +1,21 @@
 -- Files that are read again, one after another, and then an answer.
-use Rattle.std.proofs.Common.{◌≡◌, ◌∙◌, ◌++◌, Bool, List, [], ◌∷◌, ℕ, refl, ap, sym, subst, true}
+use Rattle.std.proofs.Common.{◌≡◌, ◌∙◌, Bool, List, [], ◌∷◌, ℕ, refl, ap, sym, subst, true}
 use Rattle.std.proofs.Common.{false, cond, codes, Option, Some, ◌<◌, ◌≤◌, ◌+◌, suc, length, get_or}
 use Rattle.std.proofs.Common.{drop, map, add-one}
 use Rattle.std.proofs.Math.ListN.{drop_of_length-le}
 use Rattle.std.proofs.Math.Seq.{drop-cons}
 use Rattle.std.specs.Str.{bytes_eq}
-use Rattle.std.specs.Prelude.{OnOk, Result, Ok, Err, if◌then◌else◌}
-use Rattle.std.specs.List.{AllByRecursion}
+use Rattle.std.specs.Prelude.{Result, Ok, Err, if◌then◌else◌}
 use Rattle.json.specs.Json.{Json, null}
 use Rattle.cb_tags.specs.Writers.{Writer}
-use Rattle.cb_tags.specs.Writing.{Puts, PutsAll, PutsPrefix}
-use Rattle.cb_tags.proofs.Prefixes.{Puts-after, PutsAll-after, PutsAll-none, PutsPrefix-after}
-use Rattle.cb_tags.proofs.Prefixes.{PutsPrefix-more}
+use Rattle.cb_tags.specs.Writing.{Puts}
 use Rattle.cb_wire.specs.Trees.{error_reply, result_reply}
 use Rattle.cb_wire.specs.declared.reply.ErrorCode.TheVariants.{InvalidRequest}
 use Rattle.cb_wire.specs.declared.reply.ErrorCode.TheVariants.{ServerNotInitialized}
 use Rattle.cb_lsp.specs.declared.question.Unasked.{Unasked}
 use Rattle.cb_lsp.specs.declared.server.Stage.{Stage}
 use Rattle.cb_lsp.specs.declared.server.Stage.TheVariants.{Fresh, Running, Down}
-use Rattle.cb_lsp.specs.Answers.{Replied}
-use Rattle.cb_lsp.specs.Bodies.{DoesBy, Replies, written_text}
+use Rattle.cb_lsp.specs.Bodies.{DoesBy, written_text}
 use Rattle.cb_lsp.specs.Documents.{Looked, Oracle, Reading, Work, behind_event, first_refusal, gone}
 use Rattle.cb_lsp.specs.Documents.{is_open, later, looked_at}
 use Rattle.cb_lsp.specs.Messages.{Outcome, Serving, and_then, answered, answered_after}
@@ -31,7 +27,8 @@ use Rattle.cb_lsp.specs.Refresh.{files_asked, given_anew}
 use Rattle.cb_wire.specs.Uris.{path_below}
 use Rattle.cb_lsp.specs.steps.Works.{one_event, only}
 use Rattle.cb_lsp.proofs.Answered.{by-same, on-ok}
-use Rattle.cb_lsp.proofs.Events.{all-joined, and-then-more, first_of_all, quiet, so, text-after}
+use Rattle.cb_lsp.proofs.InTurn.{first_of_all}
+use Rattle.cb_lsp.proofs.Notices.{behind}
 
 -- ---- what each of them leaves
 
@@ -87,134 +84,23 @@ module _ (P : Serving → Type 0)
 
 -- ---- one after another
 
--- the files up to some that are left were read; whatever is decided for those that are left
-abbrev pub RefreshedSo : (finds : Looked → Type 0) → (start now : Serving) → (before after : Writer)
-    → Json → Asked → (names left : List (List ℕ)) → Type 0
-RefreshedSo finds start now before after id asked names left =
-    (written : List Json) × (read : List Looked) × PutsAll before after (written_text written)
-    × AllByRecursion finds read
-    × ((more : Oracle) → (all : Oracle)
-    × (answered_after all start id asked names
-    ≡ and_then (so now written read) (answered_after more now id asked left)))
+-- what is done where files are read again
+abbrev pub answering : Json → Asked → Oracle → Serving → List (List ℕ) → Outcome
+answering id asked o s names = answered_after o s id asked names
 
-pub refreshed-none : (finds : Looked → Type 0) (s : Serving) (w : Writer) (id : Json)
-    (asked : Asked) (names : List (List ℕ)) → RefreshedSo finds s s w w id asked names names
-refreshed-none finds s w id asked names = ([], [], PutsAll-none w, tt, λ more. (more, refl))
-
-all-first : (m n : Bool) (f : Reading) (more : Oracle) (s : Serving) (id : Json) (asked : Asked)
-    (name : List ℕ) (left : List (List ℕ))
-    → answered_after (first_of_all m n f more) s id asked (name ∷ left)
+pub name-first : (id : Json) (asked : Asked) (m n : Bool) (f : Reading) (more : Oracle)
+    (s : Serving) (name : List ℕ) (left : List (List ℕ))
+    → answering id asked (first_of_all m n f more) s (name ∷ left)
     ≡ and_then (refreshed (one_event m n f) s name)
-    (answered_after more (refreshed (one_event m n f) s name).server id asked left)
+    (answering id asked more (refreshed (one_event m n f) s name).server left)
 unfolding answered_after
-all-first m n f more s id asked name left = refl
-
--- a file more, by its outcome
-pub refreshed-more : {A E : Type 0} (finds : Looked → Type 0) (start mid now : Serving)
-    (before between after : Writer) (id : Json) (asked : Asked) (names left : List (List ℕ))
-    (name : List ℕ) (m n : Bool) (f : Reading) (r : Result A E) (a : A) → r ≡ Ok a
-    → RefreshedSo finds start mid before between id asked names (name ∷ left)
-    → DoesBy finds (refreshed (one_event m n f) mid name) now between after r
-    → RefreshedSo finds start now before after id asked names left
-refreshed-more finds start mid now before between after id asked names left name m n f r a ok so_far
-    result =
-    let o = refreshed (one_event m n f) mid name in
-    let does = subst (DoesBy finds o now between after) ok result in (
-      so_far.0 ++ o.written,
-      so_far.1 ++ o.read,
-      subst (PutsAll before after) (text-after so_far.0 o)
-          (PutsAll-after before between after (written_text so_far.0) (written_text o.written) so_far.2
-          does.0.1),
-      all-joined finds so_far.1 o.read so_far.3 does.1,
-      λ more.
-          let all = so_far.4 (first_of_all m n f more) in (
-            all.0,
-            all.1
-                ∙ ap (and_then (so mid so_far.0 so_far.1)) (all-first m n f more mid id asked name left)
-                ∙ and-then-more mid so_far.0 so_far.1 o (answered_after more o.server id asked left)
-                ∙ ap (λ s. and_then (so s (so_far.0 ++ o.written) (so_far.1 ++ o.read))
-                (answered_after more s id asked left)) (sym does.0.0),
-          ),
-    )
-
--- the writer fails at a file
-pub refreshed-fails : {A B E : Type 0} (finds : Looked → Type 0) (start mid now : Serving)
-    (before between after : Writer) (id : Json) (asked : Asked) (names left : List (List ℕ))
-    (name : List ℕ) (m n : Bool) (f : Reading) (r : Result A E) (last : Result B E) (e : E)
-    → r ≡ Err e → last ≡ Err e
-    → RefreshedSo finds start mid before between id asked names (name ∷ left)
-    → DoesBy finds (refreshed (one_event m n f) mid name) now between after r
-    → (o : Oracle) × DoesBy finds (answered_after o start id asked names) now before after last
-refreshed-fails finds start mid now before between after id asked names left name m n f r last e err
-    same so_far result =
-    let o = refreshed (one_event m n f) mid name in
-    let does = subst (DoesBy finds o now between after) err result in
-    let all = so_far.4 (first_of_all m n f quiet) in
-    let rest = answered_after quiet o.server id asked left in
-    let is = all.1
-    ∙ ap (and_then (so mid so_far.0 so_far.1)) (all-first m n f quiet mid id asked name left)
-    ∙ and-then-more mid so_far.0 so_far.1 o rest in
-    let text : (written_text so_far.0 ++ written_text o.written) ++ written_text rest.written
-    ≡ written_text (answered_after all.0 start id asked names).written =
-    ap (λ t. t ++ written_text rest.written) (text-after so_far.0 o)
-    ∙ text-after (so_far.0 ++ o.written) rest
-    ∙ ap (λ (x : Outcome). written_text x.written) (sym is) in (
-      all.0,
-      subst (DoesBy finds (answered_after all.0 start id asked names) now before after) (sym same) (
-        (
-          tt,
-          subst (PutsPrefix before after) text
-              (PutsPrefix-more before after (written_text so_far.0 ++ written_text o.written)
-              (written_text rest.written)
-              (PutsPrefix-after before between after (written_text so_far.0) (written_text o.written)
-              so_far.2 does.0.1)),
-        ),
-        tt,
-      ),
-    )
-
-joined-if : {A E : Type 0} (r : Result A E) (finds : Looked → Type 0) (xs ys : List Looked)
-    → AllByRecursion finds xs → OnOk r (AllByRecursion finds ys)
-    → OnOk r (AllByRecursion finds (xs ++ ys))
-joined-if (Ok a) finds xs ys all more = all-joined finds xs ys all more
-joined-if (Err e) finds xs ys all more = tt
-
--- a reply more
-with-reply : {A E : Type 0} (finds : Looked → Type 0) (s next : Serving) (written : List Json)
-    (read : List Looked) (before between after : Writer) (to : Replied) (r : Result A E)
-    → PutsAll before between (written_text written) → AllByRecursion finds read → next ≡ s
-    → DoesBy finds (replied s to) next between after r
-    → DoesBy finds (and_then (so s written read) (replied s to)) next before after r
-with-reply finds s next written read before between after to r put all same does = (
-  (
-    on-ok r same,
-    subst (Puts before after r) (text-after written (replied s to))
-        (Puts-after before between after r (written_text written) (written_text (replied s to).written)
-        put does.0.1),
-  ),
-  joined-if r finds read to.read all does.1,
-)
+name-first id asked m n f more s name left = refl
 
 -- no file is left
-pub refreshed-answers : {A E : Type 0} (finds : Looked → Type 0) (start now next : Serving)
-    (before between after : Writer) (id : Json) (asked : Asked) (names left : List (List ℕ))
-    (o : Oracle) (r : Result A E) → left ≡ []
-    → RefreshedSo finds start now before between id asked names left → next ≡ now
-    → DoesBy finds (replied now (asked_reply o now id (Ok asked))) next between after r
-    → (all : Oracle) × DoesBy finds (answered_after all start id asked names) next before after r
+pub no-name : (id : Json) (asked : Asked) (o : Oracle) (s : Serving)
+    → replied s (asked_reply o s id (Ok asked)) ≡ answering id asked o s []
 unfolding answered_after
-refreshed-answers finds start now next before between after id asked names left o r none so_far same
-    does =
-    let all = so_far.4 o in
-    let is = all.1 ∙ ap (λ xs. and_then (so now so_far.0 so_far.1) (answered_after o now id asked xs))
-    none in (
-      all.0,
-      by-same finds (answered_after all.0 start id asked names)
-          (and_then (so now so_far.0 so_far.1) (replied now (asked_reply o now id (Ok asked)))) next
-          before after r (sym is)
-          (with-reply finds now next so_far.0 so_far.1 before between after
-          (asked_reply o now id (Ok asked)) r so_far.2 so_far.3 same does),
-    )
+no-name id asked o s = refl
 
 -- the names of files, from one on, and where there is none
 pub names-drop : {A : Type 0} (name_of : A → List ℕ) (vs : List A) (i : ℕ) (v : A) → i < length vs
@@ -262,10 +148,6 @@ refreshed-told finds m f held s name work told old new r same shut tells put fou
 
 -- ---- whether they are
 
--- what the machine decides behind the first refusal, which it did not make
-abbrev pub behind_first : Oracle → Oracle
-behind_first o = record { refusals = false ∷ o.refusals; found = o.found }
-
 module _ (s : Serving) (id : Json) (asked : Asked) where
   pub answered-at-once : (o : Oracle) → s.watches ≡ true
       → replied s (asked_reply o s id (Ok asked)) ≡ answered o s id (Ok asked)
@@ -281,8 +163,8 @@ module _ (s : Serving) (id : Json) (asked : Asked) where
 
   pub answered-behind : (o : Oracle) (names : List (List ℕ)) → s.watches ≡ false
       → names ≡ files_asked s.client s.work.world asked
-      → answered_after o s id asked names ≡ answered (behind_first o) s id (Ok asked)
+      → answered_after o s id asked names ≡ answered (behind false o) s id (Ok asked)
   answered-behind o names silent are =
       ap (answered_after o s id asked) are
-      ∙ ap (λ b. if b then replied s (asked_reply (behind_first o) s id (Ok asked))
+      ∙ ap (λ b. if b then replied s (asked_reply (behind false o) s id (Ok asked))
       else answered_after o s id asked (files_asked s.client s.work.world asked)) (sym silent)

@@ -28,7 +28,7 @@ use Rattle.cb_lsp.specs.steps.Renames.{ComesTo, behind_if, check_if, checks_of_u
 use Rattle.cb_lsp.specs.steps.Renames.{reason_of}
 use Rattle.cb_lsp.specs.steps.Works.{one_change}
 use Rattle.cb_lsp.proofs.EditGroups.{Groups, behind, by_file, cut, cut-by-file}
-use Rattle.cb_lsp.proofs.Events.{all-joined}
+use Rattle.cb_lsp.proofs.InTurn.{all-joined}
 use Rattle.cb_lsp.proofs.Notices.{quiet}
 use Rattle.cb_lsp.proofs.UsesReached.{uses-by-file}
 

@@ -4,6 +4,8 @@ ghost use Rattle.cb_lsp.specs.Messages.{encoding_for, ends_as_c, is_opening, may
 ghost use Rattle.cb_lsp.specs.Names.{is_document_name};
 ghost use Rattle.cb_lsp.specs.steps.Values.{seen};
 
+mod anew;
+
 use crate::answers::{FileAsked, put_session_symbols};
 use crate::callers::put_incoming;
 use crate::disk::{Disk, Found, most_read};
@@ -13,7 +15,6 @@ use crate::notice::{FileEvent, Notice};
 use crate::outgoing::put_outgoing;
 use crate::params;
 use crate::question::{FileQuestion, Question, question_of};
-use crate::refresh::files_asked;
 use crate::rename::Renaming;
 use crate::workspace::Workspace;
 use crate::written::{
@@ -111,7 +112,7 @@ fn encoding_for(params: Option<&Value<'_>>) -> Encoding
 }
 
 impl Server {
-    ghost use Rattle.std.specs.Prelude.{◌<◌, ◌≤◌, Bool, MatchResult, Ok, Some, codes, map};
+    ghost use Rattle.std.specs.Prelude.{◌<◌, ◌≤◌, Bool, MatchResult, Ok, Some, codes};
     ghost use Rattle.std.specs.List.{AllByRecursion};
     ghost use Rattle.json.specs.Value.{value_view};
     ghost use Rattle.cb_tags.specs.Writing.{Puts};
@@ -120,8 +121,7 @@ impl Server {
     ghost use Rattle.cb_wire.specs.Trees.{result_reply};
     ghost use Rattle.cb_wire.specs.Values.{value_text};
     ghost use Rattle.cb_lsp.specs.Answers.{answer_named, reply_with};
-    ghost use Rattle.cb_lsp.specs.Messages.{all_lost, answered, answered_after, asked_reply};
-    ghost use Rattle.cb_lsp.specs.Messages.{dropped, fresh_server, refreshed};
+    ghost use Rattle.cb_lsp.specs.Messages.{all_lost, asked_reply, dropped, fresh_server};
     ghost use Rattle.cb_lsp.specs.Messages.{happened, happened_at, unread};
     ghost use Rattle.cb_lsp.specs.Messages.{happened_in, initialized, noticed, noticed_at};
     ghost use Rattle.cb_lsp.specs.Messages.{noticed_by, noticed_of, read_behind, registers};
@@ -259,74 +259,6 @@ impl Server {
         match question_of(call) {
             Ok(question) => self.answer_anew(alloc, disk, out, id, question),
             Err(why) => put_unasked(out, id, why),
-        }
-    }
-
-    /// Reads a file again, unless its document is open.
-    fn refresh<D: Disk, W: Write>(
-        &mut self,
-        alloc: Global,
-        disk: &D,
-        out: &mut Sink<W>,
-        name: &[u8],
-    ) -> Result<(), WriteFault>
-        ensures { (no_path no_text : Bool) × (found : Reading) × DoesBy (D.finds disk.now)
-            (refreshed (one_event no_path no_text found) self.old name.now) self.new
-            out.old out.new result }
-    {
-        if self.work.documents().is_open(name) {
-            return Ok(());
-        }
-        let path = match self.root.path_of(alloc, name) {
-            Ok(path) => path,
-            Err(_) => return put_told(out, name, Some("out of memory")),
-        };
-        let found = disk.read(alloc, path.as_slice(), most_read(self.work.desk()), false);
-        let told = self.work.give_anew(alloc, name, found);
-        put_told(out, name, told)
-    }
-
-    /// Reads files again, and answers a question.
-    fn answer_after<D: Disk, W: Write>(
-        &mut self,
-        alloc: Global,
-        disk: &D,
-        out: &mut Sink<W>,
-        id: Id<'_>,
-        question: Question<'_>,
-        names: &[Vec<u8>],
-    ) -> Result<(), WriteFault>
-        ensures { (o : Oracle) × DoesBy (D.finds disk.now) (answered_after o self.old
-            (id_json id.entry) (asked_of question.entry) (map (λ name. name.items) names.now))
-            self.new out.old out.new result }
-    {
-        'names: for name in names {
-            self.refresh(alloc, disk, out, name.as_slice())?;
-        }
-        self.answer(alloc, disk, out, id, question)
-    }
-
-    /// Answers a question. Where the client does not tell of files that are written, those that the
-    /// answer names are read again before.
-    fn answer_anew<D: Disk, W: Write>(
-        &mut self,
-        alloc: Global,
-        disk: &D,
-        out: &mut Sink<W>,
-        id: Id<'_>,
-        question: Question<'_>,
-    ) -> Result<(), WriteFault>
-        ensures { (o : Oracle) × DoesBy (D.finds disk.now)
-            (answered o self.old (id_json id.entry) (Ok (asked_of question.entry))) self.new
-            out.old out.new result }
-    {
-        if self.watches {
-            return self.answer(alloc, disk, out, id, question);
-        }
-        self.settle(question);
-        match files_asked(alloc, self.forms(), self.work.desk(), question) {
-            Ok(names) => self.answer_after(alloc, disk, out, id, question, names.as_slice()),
-            Err(_) => put_refusal(out, id),
         }
     }
 

@@ -1,4 +1,4 @@
-use Rattle.std.proofs.Common.{◌≡◌, ◌∙◌, ap, map, sym, true, false}
+use Rattle.std.proofs.Common.{◌∙◌, ap, map, sym, true, false}
 use Rattle.std.specs.Prelude.{Ok}
 use Rattle.cb_wire.specs.Messages.{id_json}
 use Rattle.cb_lsp.specs.Messages.{Serving, answered, answered_after, asked_reply}
@@ -6,8 +6,8 @@ use Rattle.cb_lsp.specs.Models.{asked_of}
 use Rattle.cb_lsp.specs.Refresh.{files_asked}
 use Rattle.cb_lsp.specs.steps.Works.{only}
 use Rattle.cb_lsp.proofs.Answered.{by-as, by-reply, by-same}
+use Rattle.cb_lsp.proofs.Notices.{behind}
 use Rattle.cb_lsp.proofs.Refreshed.{answered-at-once, answered-behind, answered-unread}
-use Rattle.cb_lsp.proofs.Refreshed.{behind_first}
 use Rattle.cb_lsp.proofs.server.Server.answer_anew.Goals as goal
 
 pub returns-then-self : goal.returns-then-self
@@ -47,8 +47,8 @@ returns-in-Ok g c =
     let client = c.forms.ensures ∙ ap (λ (x : Serving). x.client) c.settle.ensures in
     let world = c.desk.ensures
     ∙ ap (λ (x : Serving). x.work.world) (c.self-2.view_is ∙ c.settle.ensures) in (
-      behind_first o,
-      by-same (g.D.Disk.finds c.args.disk.now) (answered (behind_first o) s id (Ok asked))
+      behind false o,
+      by-same (g.D.Disk.finds c.args.disk.now) (answered (behind false o) s id (Ok asked))
           (answered_after o c.settle.new.self id asked ns) c.answer_after.new.self c.args.out.now
           c.answer_after.new.out c.answer_after.result
           (ap (λ (x : Serving). answered_after o x id asked ns) c.settle.ensures

@@ -1,4 +1,4 @@
-use Rattle.std.proofs.Common.{◌≡◌, ◌∙◌, ap, false, refl, subst, sym, true}
+use Rattle.std.proofs.Common.{◌≡◌, ◌∙◌, ap, false, subst, sym, true}
 use Rattle.std.specs.Option.{option_copied}
 use Rattle.cb_desk.specs.World.{World}
 use Rattle.cb_wire.specs.Uris.{path_below}
@@ -28,23 +28,11 @@ returns g c =
     let finds = g.D.Disk.finds c.args.disk.now in
     let told = c.give_anew-told in
     let name = c.args.name.now in
-    let found = found_in c.read-found.result in
-    let held : Serving = record {
-      work = c.self.inside.work;
-      client = record {
-        root = c.self.inside.root;
-        encoding = c.self.inside.encoding;
-        tree = c.self.inside.tree;
-      };
-      rooted = c.self.inside.rooted;
-      version = c.self.inside.version.now;
-      stage = c.self.inside.stage;
-      watches = c.self.inside.watches;
-    } in (
+    let found = found_in c.read-found.result in (
       false,
       told.ensures.0,
       found,
-      refreshed-told finds told.ensures.0 found held c.args.self.now name told.new.self
+      refreshed-told finds told.ensures.0 found _ c.args.self.now name told.new.self
           (option_copied told.result) c.args.out.now c.put_told-2.new.out c.put_told-2.result
           c.self.view_is
           (subst (λ ds. is_open ds name ≡ false) c.documents.ensures

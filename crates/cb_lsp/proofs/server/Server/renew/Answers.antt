@@ -2,7 +2,6 @@ use Rattle.std.proofs.Common.{◌≡◌, ◌∙◌, ap, refl, subst, sym, true}
 use Rattle.cb_desk.specs.World.{World}
 use Rattle.std.specs.Option.{option_copied}
 use Rattle.cb_lsp.specs.Documents.{is_renewed, looked_by}
-use Rattle.cb_lsp.specs.Messages.{Serving}
 use Rattle.cb_lsp.specs.Models.{found_in}
 use Rattle.cb_lsp.proofs.Notices.{looked-so, renewed-told}
 use Rattle.cb_lsp.proofs.server.Server.renew.Goals as goal
@@ -12,23 +11,11 @@ returns g c =
     let finds = g.D.Disk.finds c.args.disk.now in
     let told = c.give_found-told in
     let name = c.name-name.result.now in
-    let held : Serving = record {
-      work = c.self.inside.work;
-      client = record {
-        root = c.self.inside.root;
-        encoding = c.self.inside.encoding;
-        tree = c.self.inside.tree;
-      };
-      rooted = c.self.inside.rooted;
-      version = c.self.inside.version.now;
-      stage = c.self.inside.stage;
-      watches = c.self.inside.watches;
-    } in
-    let renews = subst (λ b. is_renewed held.work b name ≡ true) c.may_enter.ensures
+    let renews = subst (λ b. is_renewed c.self.inside.work b name ≡ true) c.may_enter.ensures
     (sym c.renews.ensures ∙ c.if-not-renews.false) in (
       told.ensures.0,
       found_in c.read-found.result,
-      renewed-told finds told.ensures.0 (found_in c.read-found.result) held c.args.self.now
+      renewed-told finds told.ensures.0 (found_in c.read-found.result) _ c.args.self.now
           c.args.path.now name told.new.self (option_copied told.result) c.args.out.now
           c.put_told.new.out c.put_told.result c.self.view_is c.name-name.ensures renews
           told.ensures.1 c.put_told.ensures

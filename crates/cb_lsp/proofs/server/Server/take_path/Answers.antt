@@ -17,21 +17,9 @@ returns-then-is_document_name g c =
     let o : Oracle = record {
       refusals = told.ensures.0;
       found = found_in c.found_behind-found.result ∷ [];
-    } in
-    let held : Serving = record {
-      work = c.self.inside.work;
-      client = record {
-        root = c.self.inside.root;
-        encoding = c.self.inside.encoding;
-        tree = c.self.inside.tree;
-      };
-      rooted = c.self.inside.rooted;
-      version = c.self.inside.version.now;
-      stage = c.self.inside.stage;
-      watches = c.self.inside.watches;
     } in (
       o,
-      noticed-told finds c.args.notice o held c.args.self.now (seen c.args.params) c.args.path.now
+      noticed-told finds c.args.notice o _ c.args.self.now (seen c.args.params) c.args.path.now
           c.name-name.result.now told.new.self (option_copied told.result) c.args.out.now
           c.put_told.new.out c.put_told.result c.self.view_is c.name-name.ensures
           (sym c.is_document_name.ensures ∙ c.if-is_document_name.true) told.ensures.1 c.put_told.ensures
