@@ -19,7 +19,6 @@ use crate::places::FileLine;
 use crate::plan::{Plan, Record};
 use crate::present::Present;
 use crate::{Bounds, Change, Refusal};
-use cb_index::{FactKind, IndexKind};
 use cb_scan::Profile;
 use std::alloc::{AllocError, Global};
 use std::marker::Model;
@@ -69,19 +68,12 @@ impl History {
         &self.present
     }
 
-    /// Puts in order what questions read from an index. It changes no answer, and takes no memory.
-    pub(crate) fn settle(&mut self, kind: IndexKind)
+    /// Puts in order the index of definitions, by tag name or by name. It changes no answer, and
+    /// takes no memory.
+    pub(crate) fn settle(&mut self, by_tag_name: bool)
         ensures { self.new ≡ self.old }
     {
-        self.present.settle(kind);
-    }
-
-    /// Puts in order what a question about the facts of a key reads, unless these are few. It
-    /// changes no answer, and takes no memory.
-    pub(crate) fn settle_for(&mut self, kind: FactKind, key: &[u8])
-        ensures { self.new ≡ self.old }
-    {
-        self.present.settle_for(kind, key);
+        self.present.settle(by_tag_name);
     }
 
     /// The place that a change asks for, if it asks for one and that is there.

@@ -11,7 +11,7 @@ ghost use Rattle.cb_desk.specs.steps.Room.{AreCounted, AreMore, AreTooMany, fact
 ghost use Rattle.cb_desk.specs.steps.Room.{with_texts};
 
 use crate::edits::PlaceEdits;
-use cb_index::{Archive, Links, Shelf, Shown, Totals, Version};
+use cb_index::{Archive, Shelf, Shown, Totals, Version};
 use cb_scan::{Facts, Meter, Profile, Source, scan};
 use std::alloc::{AllocError, Global};
 use std::marker::Model;
@@ -33,10 +33,10 @@ pub(crate) fn scanned_source(
     let Ok(facts) = scan(alloc, meter, profile, &source) else {
         return Err(AllocError);
     };
-    let Ok(links) = Links::new(alloc, &facts) else {
-        return Err(AllocError);
-    };
-    Ok(Version::new(profile, source, facts, links))
+    match Version::new(alloc, profile, source, facts) {
+        Ok(version) => Ok(version),
+        Err(_) => Err(AllocError),
+    }
 }
 
 /// The version of a text, which is scanned by a profile.

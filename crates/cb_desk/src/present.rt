@@ -31,7 +31,7 @@ use crate::Bounds;
 use crate::edits::PlaceEdits;
 use crate::places::{PlaceList, Places};
 use crate::plan::{NewVersions, Plan, Record, with_versions};
-use cb_index::{FactKind, IndexKind, Room, Shelf, Shown};
+use cb_index::{Room, Shelf, Shown};
 use cb_scan::Profile;
 use std::alloc::{AllocError, Global};
 use std::marker::Model;
@@ -204,19 +204,12 @@ impl Present {
         mem::swap(&mut self.versions, &mut way.versions);
     }
 
-    /// Puts in order what questions read from an index. It changes no answer, and takes no memory.
-    pub(crate) fn settle(&mut self, kind: IndexKind)
+    /// Puts in order the index of definitions, by tag name or by name. It changes no answer, and
+    /// takes no memory.
+    pub(crate) fn settle(&mut self, by_tag_name: bool)
         ensures { self.new ≡ self.old }
     {
-        self.shelf.flush(kind);
-    }
-
-    /// Puts in order what a question about the facts of a key reads, unless these are few. It
-    /// changes no answer, and takes no memory.
-    pub(crate) fn settle_for(&mut self, kind: FactKind, key: &[u8])
-        ensures { self.new ≡ self.old }
-    {
-        self.shelf.flush_for(kind, key);
+        self.shelf.flush(by_tag_name);
     }
 
     /// The room for what a plan brings, for all that is shown and for all that it shows, if its

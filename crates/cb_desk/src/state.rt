@@ -19,7 +19,6 @@ use crate::{
     Bounds, Change, Definitions, Field, Files, Format, Places, Refusal, Rows, TagRows, Uses,
     answers,
 };
-use cb_index::{FactKind, IndexKind};
 use cb_scan::{Facts, Meter, Profile, Source, scan};
 use std::alloc::{AllocError, Global};
 use std::marker::Model;
@@ -249,25 +248,8 @@ impl Desk {
     pub fn settle(&mut self, field: Field)
         ensures { self.new ≡ self.old }
     {
-        match field {
-            Field::Symbol => self.history.settle(IndexKind::Facts(FactKind::Uses)),
-            Field::Definition => self.history.settle(IndexKind::DefsByName),
-            Field::Called => self.history.settle(IndexKind::Facts(FactKind::Callers)),
-            Field::Calling => self.history.settle(IndexKind::Facts(FactKind::Callees)),
-            Field::Text | Field::File | Field::Including => {}
-        }
-    }
-
-    /// The same for one question, but not where so few uses or calls answer it that a search of the
-    /// files gives them as soon.
-    pub fn settle_for(&mut self, field: Field, pattern: &[u8])
-        ensures { self.new ≡ self.old }
-    {
-        match field {
-            Field::Symbol => self.history.settle_for(FactKind::Uses, pattern),
-            Field::Called => self.history.settle_for(FactKind::Callers, pattern),
-            Field::Calling => self.history.settle_for(FactKind::Callees, pattern),
-            _ => self.settle(field),
+        if field == Field::Definition {
+            self.history.settle(false);
         }
     }
 
@@ -277,8 +259,8 @@ impl Desk {
         ensures { self.new ≡ self.old }
     {
         match format {
-            Format::Plain => self.history.settle(IndexKind::DefsByTagName),
-            Format::Extended => self.history.settle(IndexKind::DefsByName),
+            Format::Plain => self.history.settle(true),
+            Format::Extended => self.history.settle(false),
         }
     }
 
@@ -299,8 +281,7 @@ impl Desk {
         Definitions::new(self.history.present().shelf(), name)
     }
 
-    /// The uses of a name in the present world, by file and place, two on one line as two. After
-    /// `settle_for` of the field `Symbol` and the name they are found in an index.
+    /// The uses of a name in the present world, by file and place, two on one line as two.
     pub fn uses<'a, 'p>(&'a self, name: &'p [u8]) -> Uses<'a, 'p>
         ensures { result ≡ uses_of self.now.timeline.present.profile name.now
             self.now.timeline.present.files }
@@ -309,8 +290,7 @@ impl Desk {
     }
 
     /// The calls of a function or macro in the present world, by file and place: the name of each
-    /// is the called one, and the name around it the one that calls. After `settle_for` of the
-    /// field `Calling` and the name they are found in an index.
+    /// is the called one, and the name around it the one that calls.
     pub fn calls_of<'a, 'p>(&'a self, name: &'p [u8]) -> Uses<'a, 'p>
         ensures { result ≡ calls_of self.now.timeline.present.profile name.now
             self.now.timeline.present.files }
@@ -319,7 +299,7 @@ impl Desk {
     }
 
     /// The calls that stand in the functions and macros of a name, by file and place, named in the
-    /// same way. After `settle_for` of the field `Called` and the name they are found in an index.
+    /// same way.
     pub fn calls_in<'a, 'p>(&'a self, name: &'p [u8]) -> Uses<'a, 'p>
         ensures { result ≡ calls_in self.now.timeline.present.profile name.now
             self.now.timeline.present.files }

@@ -1,14 +1,13 @@
 -- Indexes that become others, one after another.
-use Rattle.std.proofs.Common.{◌≡◌, ◌∙◌, ◌≤◌, ◌<◌, ℕ, zero, suc, List, [], ◌∷◌, refl, sym, ap, subst}
+use Rattle.std.proofs.Common.{◌≡◌, ◌∙◌, ◌≤◌, ◌<◌, ℕ, zero, suc, Bool, true, false, List, [], ◌∷◌}
+use Rattle.std.proofs.Common.{refl, sym, ap, subst}
 use Rattle.std.proofs.Common.{length, map, slice_index_or, slice_set, arith}
 use Rattle.std.proofs.lemmas.List.{length-map}
 use Rattle.std.specs.List.{AllByRecursion}
 use Rattle.cb_index.specs.Held.{Indexed}
-use Rattle.cb_index.specs.Kinds.{all_kinds}
-use Rattle.cb_index.specs.Shelved.{kind_place}
-use Rattle.cb_index.specs.declared.entry.FactKind.TheVariants.{Uses, Callees, Callers}
+use Rattle.cb_index.specs.Kinds.{all_kinds, def_kind}
+use Rattle.cb_index.specs.Shelved.{def_place}
 use Rattle.cb_index.specs.declared.entry.IndexKind.{IndexKind}
-use Rattle.cb_index.specs.declared.entry.IndexKind.TheVariants.{DefsByName, DefsByTagName, Facts}
 use Rattle.cb_index.specs.steps.Moves.{Become}
 
 abbrev pub kinds_of : List Indexed → List IndexKind
@@ -135,29 +134,25 @@ map_at [] n d = refl
 map_at (x ∷ xs) zero d = refl
 map_at (x ∷ xs) (suc n) d = map_at xs n d
 
-in_place : (kind other : IndexKind) → slice_index_or all_kinds (kind_place kind) other ≡ kind
-in_place DefsByName other = refl
-in_place DefsByTagName other = refl
-in_place (Facts Uses) other = refl
-in_place (Facts Callees) other = refl
-in_place (Facts Callers) other = refl
+in_place : (by_tag_name : Bool) (other : IndexKind)
+    → slice_index_or all_kinds (def_place by_tag_name) other ≡ def_kind by_tag_name
+in_place false other = refl
+in_place true other = refl
 
-pub kind_at : (kind : IndexKind) (xs : List Indexed) (d : Indexed) → kinds_of xs ≡ all_kinds
-    → (slice_index_or xs (kind_place kind) d).kind ≡ kind
-kind_at kind xs d kinds =
-    map_at xs (kind_place kind) d ∙ ap (λ l. slice_index_or l (kind_place kind) d.kind) kinds
-    ∙ in_place kind d.kind
+pub kind_at : (by_tag_name : Bool) (xs : List Indexed) (d : Indexed) → kinds_of xs ≡ all_kinds
+    → (slice_index_or xs (def_place by_tag_name) d).kind ≡ def_kind by_tag_name
+kind_at by_tag_name xs d kinds =
+    map_at xs (def_place by_tag_name) d
+    ∙ ap (λ l. slice_index_or l (def_place by_tag_name) d.kind) kinds
+    ∙ in_place by_tag_name d.kind
 
-five : (kind : IndexKind) → kind_place kind < 5
-five DefsByName = omega arith
-five DefsByTagName = omega arith
-five (Facts Uses) = omega arith
-five (Facts Callees) = omega arith
-five (Facts Callers) = omega arith
+two : (by_tag_name : Bool) → def_place by_tag_name < 2
+two false = omega arith
+two true = omega arith
 
-pub place_below : (kind : IndexKind) (xs : List Indexed) → kinds_of xs ≡ all_kinds
-    → kind_place kind < length xs
-place_below kind xs kinds =
+pub place_below : (by_tag_name : Bool) (xs : List Indexed) → kinds_of xs ≡ all_kinds
+    → def_place by_tag_name < length xs
+place_below by_tag_name xs kinds =
     let same = length-map xs (λ (x : Indexed). x.kind) in
     let count = ap length kinds in
-    omega (arith, five kind, same, count)
+    omega (arith, two by_tag_name, same, count)

@@ -1,10 +1,7 @@
 -- The rows of the uses and calls that are shown.
 use Rattle.std.proofs.Common.{◌≡◌, ◌∙◌, ℕ, suc, Bool, true, false, List, []}
-use Rattle.std.proofs.Common.{◌∷◌, ◌++◌, Some, None, refl, ap, length, map, drop, filter}
-use Rattle.std.proofs.Common.{arith}
-use Rattle.std.proofs.lemmas.List.Concat.{flat_map-append}
-use Rattle.std.proofs.lemmas.List.Elements.{filter-append}
-use Rattle.std.specs.Prelude.{cond, nat_eq, slice_get, Option, ◌&&◌}
+use Rattle.std.proofs.Common.{◌∷◌, Some, None, refl, ap, length, map, drop, filter}
+use Rattle.std.specs.Prelude.{cond, slice_get, Option}
 use Rattle.std.specs.List.{AllByRecursion, flat_map, range_with_len}
 use Rattle.std.specs.Option.{option_map}
 use Rattle.std.specs.Str.{bytes_eq}
@@ -13,36 +10,24 @@ use Rattle.cb_scan.specs.declared.facts.Use.{Use}
 use Rattle.cb_scan.specs.declared.profile.Profile.{Profile}
 use Rattle.cb_scan.specs.declared.lex.piece.Span.{Span}
 use Rattle.cb_scan.specs.Definitions.{IsScopeWithin, IsWithin}
-use Rattle.cb_scan.specs.Keys.{key_prefix}
 use Rattle.cb_scan.specs.lex.Tokens.{bytes_of}
 use Rattle.cb_scan.proofs.FactsWithin.{facts_lie}
 use Rattle.cb_index.specs.Scanned.{Scanned, facts_of}
-use Rattle.cb_index.specs.Archived.{Archived, name_of, text_at, text_of}
+use Rattle.cb_index.specs.Archived.{Archived, name_of, text_at}
 use Rattle.cb_index.specs.Bytes.{bytes_at, cut}
-use Rattle.cb_index.specs.Entries.{has_key}
-use Rattle.cb_index.specs.Files.{AreAscending, File, IsThere, files_of}
-use Rattle.cb_index.specs.Held.{all_entries, entries_of, entry_of}
-use Rattle.cb_index.specs.Items.{item_count, item_key}
-use Rattle.cb_index.specs.Orders.{firsts_in, item_keyer, key_in}
+use Rattle.cb_index.specs.Files.{File}
 use Rattle.cb_index.specs.Rows.{Fact, call_in, calls_in, calls_of, facts_named, file_calls_in}
 use Rattle.cb_index.specs.Rows.{file_calls_of, file_facts}
 use Rattle.cb_index.specs.Rows.{file_uses_of, use_in, uses_of}
-use Rattle.cb_index.specs.Shelved.{IsIndexOf}
-use Rattle.cb_index.specs.steps.Found.{fact_at, fact_of_call, fact_of_use, facts_at, facts_in}
-use Rattle.cb_index.specs.steps.Found.{facts_in_text}
-use Rattle.cb_index.specs.steps.Given.{given_in, given_in_text}
+use Rattle.cb_index.specs.steps.Found.{fact_at, fact_of_call, fact_of_use}
 use Rattle.cb_index.specs.steps.Searched.{items_with}
-use Rattle.cb_index.specs.steps.Spread.{items_from}
-use Rattle.cb_index.specs.declared.entry.Posting.{Posting}
 use Rattle.cb_index.specs.declared.entry.Shown.{Shown}
 use Rattle.cb_index.specs.declared.entry.FactKind.{FactKind}
 use Rattle.cb_index.specs.declared.entry.FactKind.TheVariants.{Uses, Callees, Callers}
-use Rattle.cb_index.proofs.FirstLemmas.{firsts_give, has, prefix_and_key}
+use Rattle.cb_index.proofs.FirstLemmas.{has}
 use Rattle.cb_index.proofs.RangeItems.{range_next}
 use Rattle.cb_index.proofs.RestLemmas.{at_front, drop_next}
-use Rattle.cb_index.proofs.RiseLemmas.{firsts_rise}
-use Rattle.cb_index.proofs.RowLemmas.{cut_is, kept_key}
-use Rattle.cb_index.proofs.TextLemmas.{text_there}
+use Rattle.cb_index.proofs.RowLemmas.{cut_is}
 
 -- ---- the facts of numbers
 module _ {X : Type 0} (fact : ℕ → Fact) (row : X → Fact) (has : ℕ → Bool) (key_of_x : X → List ℕ)
@@ -140,21 +125,6 @@ module _ (a : Archived) (s : Shown) (text : Scanned)
   one_searched Callees = callees_searched
   one_searched Callers = callers_searched
 
-  pub one_facts : (kind : FactKind)
-      → facts_in kind a (filter (has_key (item_keyer kind) a (key_prefix key) key)
-      (entries_of (firsts_in kind) a s)) ≡ file_facts text.profile kind key file
-  one_facts kind =
-      ap (λ o. facts_in kind a (filter (has_key (item_keyer kind) a (key_prefix key) key)
-      (map (entry_of s) (firsts_in kind o)))) there
-      ∙ firsts_give kind text key (fact_at kind (name_of a s.name) text) (facts_at kind a)
-      (has_key (item_keyer kind) a (key_prefix key) key) s
-      (λ item. ap (facts_in_text kind (name_of a s.name) item) there)
-      (λ item.
-      ap (λ k. nat_eq (key_prefix key) (key_prefix (item_key kind text item)) && bytes_eq key k)
-      (ap (λ t. key_in kind t item) there) ∙ prefix_and_key key (item_key kind text item))
-      0 (item_count kind text) (omega arith) (λ before below. absurd (omega (arith, below)))
-      ∙ one_searched kind
-
 -- ---- all versions
 pub named_apart : (p : Profile) (kind : FactKind) (key : List ℕ) (fs : List File)
     → flat_map (file_facts p kind key) fs ≡ facts_named p kind key fs
@@ -162,46 +132,3 @@ unfolding uses_of calls_of calls_in
 named_apart p Uses key fs = refl
 named_apart p Callees key fs = refl
 named_apart p Callers key fs = refl
-
-module _ (kind : FactKind) (a : Archived) (key : List ℕ) where
-  all_facts : (shown : List Shown) → AllByRecursion (IsThere a) shown
-      → facts_in kind a (filter (has_key (item_keyer kind) a (key_prefix key) key)
-      (all_entries (firsts_in kind) a shown)) ≡ flat_map (file_facts a.profile kind key) (files_of a
-      shown)
-  all_facts [] all = refl
-  all_facts (s ∷ shown) all =
-      let has = has_key (item_keyer kind) a (key_prefix key) key in
-      ap (facts_in kind a)
-      (filter-append has (entries_of (firsts_in kind) a s) (all_entries (firsts_in kind) a shown))
-      ∙ flat_map-append (facts_at kind a) (filter has (entries_of (firsts_in kind) a s))
-      (filter has (all_entries (firsts_in kind) a shown))
-      ∙ (λ i. one_facts a s (text_of a s.version)
-      (text_there a s.version all.0.1) key kind i
-      ++ all_facts shown all.1 i)
-
-  pub rows_of_facts : (shown : List Shown) → AllByRecursion (IsThere a) shown → AreAscending a shown
-      → (es : List Posting)
-      → IsIndexOf (item_keyer kind) (firsts_in kind) a shown es
-      → facts_in kind a (filter (has_key (item_keyer kind) a (key_prefix key) key) es)
-      ≡ facts_named a.profile kind key (files_of a shown)
-  rows_of_facts shown all up es is =
-      ap (facts_in kind a) (kept_key (item_keyer kind) a (firsts_in kind) (firsts_rise kind) shown
-      up (key_prefix key) key es is)
-      ∙ all_facts shown all ∙ named_apart a.profile kind key (files_of a shown)
-
--- ---- where all are given
-given_all : (sort : FactKind) (file : List ℕ) (item : ℕ) (text : Option Scanned)
-    → given_in_text true sort file item text ≡ facts_in_text sort file item text
-given_all sort _ item None = refl
-given_all sort file item (Some text) =
-    ap (map (fact_at sort file text)) (kept_all (items_from sort text item))
-  where
-    kept_all : (items : List ℕ) → filter (λ i. true) items ≡ items
-    kept_all [] = refl
-    kept_all (i ∷ items) = ap (λ l. i ∷ l) (kept_all items)
-
-pub all_given : (sort : FactKind) (a : Archived) (es : List Posting)
-    → given_in true sort a es ≡ facts_in sort a es
-all_given sort a es =
-    λ i. flat_map
-    (λ (e : Posting). given_all sort (name_of a e.name) e.number (text_at a e.version) i) es

@@ -1,6 +1,6 @@
 -- The first items of keys, and those behind them.
 use Rattle.std.proofs.Common.{◌≡◌, ◌∙◌, ◌+◌, ◌-◌, ◌<◌, ◌≤◌, ℕ, zero, suc, Bool, true, false, not}
-use Rattle.std.proofs.Common.{List, [], ◌∷◌, ◌++◌, refl, sym, ap, subst, map, filter, get_or, arith}
+use Rattle.std.proofs.Common.{List, [], ◌∷◌, ◌++◌, refl, sym, ap, map, filter, get_or, arith}
 use Rattle.std.proofs.Common.{append-nil, ◌⊎◌, inl, inr}
 use Rattle.std.proofs.lemmas.Bool.{cases_lt, false≢true, true≢false}
 use Rattle.std.proofs.lemmas.Bool.Decides.{Decides-eqb}
@@ -110,32 +110,6 @@ module _ (sort : FactKind) (text : Scanned) (key : List ℕ) where
             ∷ filter takes (entries_in (range_with_len (suc n) len)))
             (filter takes (entries_in (range_with_len (suc n) len)))) (tests n ∙ has_not) ∙ rest
         step false here is_none has_or_not rest = rest
-
-    -- of the entries of first items there is at most one that has the key
-    module _ (P : List Posting → Type 0) (none : P []) (one : (item : ℕ)
-        → is_first sort text item ≡ true → P (entry_of s (listed sort text item) ∷ [])) where
-      pub at_most_one : (n len : ℕ) → P (filter takes (entries_in (range_with_len n len)))
-      at_most_one n zero = none
-      at_most_one n (suc len) =
-          subst P (sym (ap (λ l. filter takes (entries_in l)) (range_next n len)))
-          (step (is_first sort text n) (has n) refl refl (at_most_one (suc n) len))
-        where
-          step : (first here : Bool) → is_first sort text n ≡ first → has n ≡ here
-              → P (filter takes (entries_in (range_with_len (suc n) len)))
-              → P (filter takes (map (entry_of s) (map (listed sort text)
-              (cond first (n ∷ filter (is_first sort text) (range_with_len (suc n) len))
-              (filter (is_first sort text) (range_with_len (suc n) len))))))
-          step true true is_one has_it rest =
-              subst P (sym (ap (λ b. cond b (entry_of s (listed sort text n)
-              ∷ filter takes (entries_in (range_with_len (suc n) len)))
-              (filter takes (entries_in (range_with_len (suc n) len)))) (tests n ∙ has_it)
-              ∙ ap (λ es. entry_of s (listed sort text n) ∷ es)
-              (none_behind n has_it (suc n) len (omega arith)))) (one n is_one)
-          step true false is_one has_not rest =
-              subst P (sym (ap (λ b. cond b (entry_of s (listed sort text n)
-              ∷ filter takes (entries_in (range_with_len (suc n) len)))
-              (filter takes (entries_in (range_with_len (suc n) len)))) (tests n ∙ has_not))) rest
-          step false here is_none has_or_not rest = rest
 
   -- ---- what the entries of the first items give
   module _ {Y : Type 0} (fact : ℕ → Y) (give : Posting → List Y) (takes : Posting → Bool)

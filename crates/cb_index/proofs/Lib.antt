@@ -1,8 +1,8 @@
 pub mod AnyFileLemmas
 pub mod AscendLemmas
 pub mod BlockLemmas
+pub mod ColumnLemmas
 pub mod CompactLemmas
-pub mod CountLemmas
 pub mod CoverLemmas
 pub mod DefSearchLemmas
 pub mod EachLemmas
@@ -19,8 +19,8 @@ pub mod IndexLemmas
 pub mod ItemLemmas
 pub mod ItemLines
 pub mod KeptLemmas
-pub mod LayLemmas
 pub mod ListedLemmas
+pub mod MarkLemmas
 pub mod NameLemmas
 pub mod NewRowLemmas
 pub mod OrderingLemmas
@@ -37,6 +37,7 @@ pub mod RowsAscendLemmas
 pub mod RunLemmas
 pub mod SearchLemmas
 pub mod ShownLemmas
+pub mod SignatureLemmas
 pub mod SortLemmas
 pub mod SortedLemmas
 pub mod SpreadLemmas

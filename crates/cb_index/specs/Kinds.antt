@@ -6,13 +6,12 @@ use Rattle.cb_index.specs.Held.{Lister}
 use Rattle.cb_index.specs.Orders.{def_key, defs_listed, firsts_in, item_keyer, tag_key}
 use Rattle.cb_index.specs.Orders.{tag_key_prefix, tags_listed}
 use Rattle.cb_index.specs.declared.entry.FactKind.{FactKind}
-use Rattle.cb_index.specs.declared.entry.FactKind.TheVariants.{Uses, Callees, Callers}
 use Rattle.cb_index.specs.declared.entry.IndexKind.{IndexKind}
 use Rattle.cb_index.specs.declared.entry.IndexKind.TheVariants.{DefsByName, DefsByTagName, Facts}
 
--- the five kinds, in the order in which a shelf keeps their indexes
+-- the kinds of the indexes of a shelf, in their order
 abbrev pub all_kinds : List IndexKind
-all_kinds = DefsByName ∷ DefsByTagName ∷ Facts Uses ∷ Facts Callees ∷ Facts Callers ∷ []
+all_kinds = DefsByName ∷ DefsByTagName ∷ []
 
 -- the key of an entry
 abbrev pub keyer_of : IndexKind → Keyer

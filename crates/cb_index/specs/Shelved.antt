@@ -1,5 +1,5 @@
 -- What a shelf keeps and shows.
-use Rattle.std.specs.Prelude.{ℕ, ◌≡◌, ◌≤◌, ◌+◌, ◌^◌, ◌⊎◌, ◌++◌, false, List, length, map}
+use Rattle.std.specs.Prelude.{ℕ, ◌≡◌, ◌≤◌, ◌+◌, ◌^◌, ◌⊎◌, ◌++◌, Bool, false, true, List, length, map}
 use Rattle.std.specs.Prelude.{max}
 use Rattle.std.specs.List.{AllByRecursion, list_any}
 use Rattle.cb_scan.specs.declared.profile.Profile.{Profile}
@@ -82,7 +82,7 @@ pub record Covers (keyer : Keyer) (lister : Lister) (a : Archived) (shown : List
 abbrev pub IsIndex : Archived → List Shown → Indexed → Type 0
 IsIndex a shown x = Covers (keyer_of x.kind) (lister_of x.kind) a shown x
 
--- the five indexes are those of what is shown, whose numbers are there, by file name
+-- the two indexes are those of what is shown, whose numbers are there, by file name
 pub record AreKept (a : Archived) (shown : List Shown) (xs : List Indexed) : Type 0 where
   pub there : AllByRecursion (IsThere a) shown
   pub ascending : AreAscending a shown
@@ -97,13 +97,10 @@ room_for (Facts Uses) room = room.uses
 room_for (Facts Callees) room = room.calls
 room_for (Facts Callers) room = room.calls
 
--- the place of an index among the five
-abbrev pub kind_place : IndexKind → ℕ
-kind_place DefsByName = 0
-kind_place DefsByTagName = 1
-kind_place (Facts Uses) = 2
-kind_place (Facts Callees) = 3
-kind_place (Facts Callers) = 4
+-- the place of an index of definitions: by tag name, or by name
+abbrev pub def_place : Bool → ℕ
+def_place false = 0
+def_place true = 1
 
 -- the greater room of each
 abbrev pub larger_room : Room → Room → Room

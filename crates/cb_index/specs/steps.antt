@@ -7,9 +7,9 @@ pub mod Found
 pub mod FunctionSpans
 pub mod Given
 pub mod Includes
-pub mod Laying
 pub mod Left
 pub mod Lists
+pub mod Marking
 pub mod Moves
 pub mod Quick
 pub mod RowsLeft

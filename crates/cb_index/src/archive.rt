@@ -1,7 +1,7 @@
 //! What is kept: names, and versions with what is found in them, each under a number; and the
 //! bytes of these that spans name, with their order.
-ghost use Rattle.std.specs.Prelude.{◌≡◌, ◌<◌, ◌≤◌, ◌+◌, ◌++◌, ◌∷◌, [], IfSome, OnOk, length, map};
-ghost use Rattle.std.specs.Prelude.{slice_index_or, take};
+ghost use Rattle.std.specs.Prelude.{◌≡◌, ◌<◌, ◌≤◌, ◌+◌, ◌++◌, ◌∷◌, [], IfOk, OnOk, false, length};
+ghost use Rattle.std.specs.Prelude.{map, slice_index_or, take};
 ghost use Rattle.std.specs.Cmp.Lexicographic.{slice_cmp};
 ghost use Rattle.std.specs.List.{All, AllByRecursion, swap_remove};
 ghost use Rattle.std.specs.Option.{option_copied};
@@ -9,12 +9,13 @@ ghost use Rattle.std.specs.Ordering.{nat_cmp};
 ghost use Rattle.cb_scan.specs.Profiles.{facts_in};
 ghost use Rattle.cb_index.specs.Archived.{AreBytes, name_of, text_at, text_of};
 ghost use Rattle.cb_index.specs.Bytes.{bytes_at, cut, place_at};
-ghost use Rattle.cb_index.specs.Links.{link_of, nothing_laid};
+ghost use Rattle.cb_index.specs.Columns.{HasNone, column_of};
+ghost use Rattle.cb_index.specs.declared.entry.FactKind.{FactKind};
 ghost use Rattle.cb_index.specs.Scanned.{facts_of};
 
 use crate::blocks::Place;
-use crate::entry::{FactKind, Shown};
-use crate::links::{Link, Links, Mention};
+use crate::columns::{Cell, Columns};
+use crate::entry::FactKind;
 use cb_scan::{Facts, Profile, Source, Span, key_prefix};
 use std::alloc::Global;
 use std::cmp::Ordering;
@@ -134,40 +135,46 @@ impl ScannedSource {
     }
 }
 
-/// A source with what its profile finds in it, and links between facts of one key. Its value is the
-/// profile and the text: whether links are laid is only a matter of time.
+/// A source with what its profile finds in it, and the columns of its uses and calls. Its value is
+/// the profile and the text.
 #[derive(Debug, Drop)]
 pub struct Version {
     text: ScannedSource,
-    links: Links,
+    columns: Columns,
     /// Where it is likely to stand in the list of what is shown.
     place: Place,
 }
 
 impl Model for Version {
-    ghost use Rattle.cb_index.specs.Links.{AreLaid};
+    ghost use Rattle.cb_index.specs.Columns.{AreColumns};
     ghost use Rattle.cb_index.specs.Scanned.{Scanned};
 
     ghost Value = { Scanned };
 
     ghost view = { λ v. v.text };
 
-    ghost invariant = { λ v. AreLaid v.text v.links };
+    ghost invariant = { λ v. AreColumns v.text v.columns };
 }
 
 impl Version {
-    /// The version of a source, with what a profile finds in it and with room for links.
-    pub fn new(profile: Profile, source: Source, facts: Facts, links: Links) -> Version
-        requires facts { facts ≡ facts_in profile source }
-        requires links { links ≡ nothing_laid }
-        ensures profile { result.profile ≡ profile }
-        ensures bytes { result.bytes ≡ source }
+    /// The version of a source, with what a profile finds in it.
+    pub fn new(
+        alloc: Global,
+        profile: Profile,
+        source: Source,
+        facts: Facts,
+    ) -> Result<Version, OutOfMemory>
+        requires { facts ≡ facts_in profile source }
+        ensures profile { IfOk result (λ version. version.profile ≡ profile) }
+        ensures bytes { IfOk result (λ version. version.bytes ≡ source) }
     {
-        Version {
-            text: ScannedSource::new(profile, source, facts),
-            links,
+        let text = ScannedSource::new(profile, source, facts);
+        let columns = Columns::new(alloc, &text)?;
+        Ok(Version {
+            text,
+            columns,
             place: Place { block: 0, at: 0 },
-        }
+        })
     }
 
     /// Notes where it stands in the list of what is shown.
@@ -204,24 +211,18 @@ impl Version {
         self.text.facts()
     }
 
-    /// The link of an item, if links are laid.
-    pub(crate) fn link(&self, sort: FactKind, item: u32) -> Option<Link>
-        ensures { IfSome result (λ link. link ≡ link_of sort self.now item) }
+    /// Whether a use or a call of it may have a name or a caller of a hash.
+    pub(crate) fn may_have(&self, hash: u32) -> bool
+        ensures { (sort : FactKind) → result ≡ false → HasNone hash (column_of sort self.now) }
     {
-        match self.links.of(sort).get(item as usize) {
-            Some(link) => Some(*link),
-            None => None,
-        }
+        self.columns.may_have(hash)
     }
 
-    /// Lays its links of a sort, if none are laid, with a list as scratch; none where there is too
-    /// little room.
-    fn lay(&mut self, sort: FactKind, scratch: &mut Vec<Mention>)
-        ensures { self.new ≡ self.old }
+    /// The column of its uses or calls.
+    pub(crate) fn column(&self, sort: FactKind) -> &[Cell]
+        ensures { result.now ≡ column_of sort self.now }
     {
-        if self.links.of(sort).is_empty() {
-            self.links.lay(sort, &self.text, scratch);
-        }
+        self.columns.of(sort)
     }
 }
 
@@ -401,25 +402,6 @@ impl Archive {
         ensures { result.now ≡ facts_of (text_of self.now version) }
     {
         self.versions[version as usize].facts()
-    }
-
-    /// Lays links of a version, if it is there and none are laid, with a list as scratch.
-    fn lay(&mut self, version: u32, sort: FactKind, scratch: &mut Vec<Mention>)
-        ensures { self.new ≡ self.old }
-    {
-        if (version as usize) < self.versions.len() {
-            self.versions[version as usize].lay(sort, scratch);
-        }
-    }
-
-    /// Lays links of versions, if none are laid, with a list as scratch. It takes no memory: where
-    /// there is too little room, none are laid.
-    pub(crate) fn lay_each(&mut self, shown: &[Shown], sort: FactKind, scratch: &mut Vec<Mention>)
-        ensures { self.new ≡ self.old }
-    {
-        for one in shown {
-            self.lay(one.version, sort, scratch);
-        }
     }
 
     /// Notes where a version stands in the list of what is shown.

@@ -1,25 +1,21 @@
 //! Uses and calls, one after another.
 ghost use Rattle.std.specs.Prelude.{◌≡◌, ◌+◌, ◌++◌, ◌∷◌, [], Bool, true, false, ⊤, IfSome};
 ghost use Rattle.std.specs.Prelude.{MatchOption, sum_by};
-ghost use Rattle.cb_index.specs.Items.{is_first};
 ghost use Rattle.std.specs.List.{flat_map};
 ghost use Rattle.std.specs.Iterator.{YieldsFirstBy, item_count};
-ghost use Rattle.cb_index.specs.steps.Found.{facts_in};
-ghost use Rattle.cb_index.specs.steps.Given.{given_at, given_in};
+ghost use Rattle.cb_index.specs.Items.{is_first};
 ghost use Rattle.cb_index.specs.steps.Spread.{items_from};
 ghost use Rattle.cb_index.specs.steps.Searched.{items_with, searched_at, searched_count};
 ghost use Rattle.cb_index.specs.steps.Left.{fact_of, fact_of_spot, facts_counted, facts_left};
 ghost use Rattle.cb_index.specs.steps.Left.{facts_new, group_left, group_count, group_left_if};
 ghost use Rattle.cb_index.specs.steps.Left.{groups_left, rows_counted, spots_left, walk_left};
-ghost use Rattle.cb_index.specs.steps.Runs.{run_items};
 ghost use Rattle.cb_index.specs.steps.ShownIn.{shown_in};
-ghost use Rattle.cb_index.specs.declared.entry.Posting.{Posting};
 
 use crate::archive::{Archive, Version};
-use crate::blocks::Run;
-use crate::entry::{FactKind, Posting, Shown};
+use crate::columns::hash;
+use crate::entry::{FactKind, Shown};
 use crate::files::ShownFiles;
-use crate::items::{Chain, item_count, item_key, row_count};
+use crate::items::{Chain, has_key, item_count, row_count};
 use crate::repeats::take_given;
 use crate::rows::{FactRow, FactSpot, fact_at};
 
@@ -30,13 +26,11 @@ pub(crate) struct Group<'a> {
     items: Chain<'a>,
 }
 
-/// Where the groups of a key are found.
+/// A key, and the files in which it is still to be searched for.
 #[derive(Clone, Copy)]
-pub(crate) enum Groups<'a, 'p> {
-    /// In the entries of an index.
-    Held(Run<'a, Posting>),
-    /// By a search for the key in each of these files.
-    Searched(&'p [u8], ShownFiles<'a>),
+pub(crate) struct Groups<'a, 'p> {
+    key: &'p [u8],
+    shown: ShownFiles<'a>,
 }
 
 /// The facts of a key that are still to come: those of the group, and then those of the others.
@@ -61,17 +55,6 @@ pub struct FactRows<'a, 'p> {
     walk: Walk<'a, 'p>,
 }
 
-/// The facts of an entry, if its version is there.
-fn group_of<'a>(sort: FactKind, archive: &'a Archive, entry: Posting) -> Option<Group<'a>>
-    ensures { (all : Bool) → group_left_if all result ≡ given_at all sort archive.now entry }
-{
-    let version = archive.version(entry.version)?;
-    Some(Group {
-        file: archive.name(entry.name),
-        items: Chain::from(sort, version, entry.number),
-    })
-}
-
 /// Takes the first fact of a group that is given: of all, or of those that are no repeats.
 fn take_spot<'a>(group: &mut Group<'a>, all: bool) -> Option<FactSpot<'a>>
     ensures { MatchOption result (group_left all group.old ≡ [])
@@ -87,8 +70,12 @@ fn first_with_key(sort: FactKind, version: &Version, key: &[u8]) -> Option<u32>
     ensures items { MatchOption result (items_with sort version.now key.now ≡ [])
         (λ item. items_with sort version.now key.now ≡ items_from sort version.now item) }
 {
+    let hash = hash(key);
+    if !version.may_have(hash) {
+        return None;
+    }
     for item in 0..item_count(sort, version) {
-        if key == item_key(sort, version, item as u32) {
+        if has_key(sort, version, key, hash, item as u32) {
             return Some(item as u32);
         }
     }
@@ -132,22 +119,14 @@ fn next_group<'a, 'p>(
         ≡ group_left_if all r.group ++ groups_left all sort archive.now r.rest) }
     ensures fewer { MatchOption result ⊤ (λ r. group_count groups.entry ≡ 1 + group_count r.rest) }
 {
-    match groups {
-        Groups::Held(entries) => {
-            let (entry, rest) = entries.split_first()?;
-            Some(GroupStep {
-                group: group_of(sort, archive, *entry),
-                rest: Groups::Held(rest),
-            })
-        }
-        Groups::Searched(key, shown) => {
-            let (one, rest) = shown.split_first()?;
-            Some(GroupStep {
-                group: search_group(sort, archive, key, one),
-                rest: Groups::Searched(key, rest),
-            })
-        }
-    }
+    let (one, rest) = groups.shown.split_first()?;
+    Some(GroupStep {
+        group: search_group(sort, archive, groups.key, one),
+        rest: Groups {
+            key: groups.key,
+            shown: rest,
+        },
+    })
 }
 
 /// A fact, what is left of its group, and the groups after that.
@@ -203,28 +182,6 @@ fn next_fact<'a, 'p>(walk: &mut Walk<'a, 'p>, all: bool) -> Option<FactSpot<'a>>
 }
 
 impl<'a, 'p> FactRows<'a, 'p> {
-    /// The facts of entries.
-    pub(crate) fn held(
-        sort: FactKind,
-        archive: &'a Archive,
-        entries: Run<'a, Posting>,
-    ) -> FactRows<'a, 'p>
-        ensures rows { facts_left result ≡ facts_in sort archive.now (run_items entries.entry) }
-        ensures new { facts_new result
-            ≡ given_in false sort archive.now (run_items entries.entry) }
-        ensures counted { facts_counted result
-            ≡ sum_by (λ (e : Posting). e.rows) (run_items entries.entry) }
-    {
-        FactRows {
-            walk: Walk {
-                sort,
-                archive,
-                groups: Groups::Held(entries),
-                group: None,
-            },
-        }
-    }
-
     /// The facts of a key in files.
     pub(crate) fn searched(
         sort: FactKind,
@@ -243,7 +200,7 @@ impl<'a, 'p> FactRows<'a, 'p> {
             walk: Walk {
                 sort,
                 archive,
-                groups: Groups::Searched(key, shown),
+                groups: Groups { key, shown },
                 group: None,
             },
         }
@@ -263,19 +220,6 @@ impl<'a, 'p> FactRows<'a, 'p> {
     {
         next_fact(&mut self.walk, true)
     }
-}
-
-/// How many rows entries stand for.
-fn count_held(entries: Run<'_, Posting>) -> u128
-    ensures { result ≡ sum_by (λ (e : Posting). e.rows) (run_items entries.entry) }
-{
-    let mut count = 0;
-    let mut left = entries;
-    while let Some((entry, rest)) = left.split_first() {
-        left = rest;
-        count += entry.rows as u128;
-    }
-    count
 }
 
 /// How many rows the facts of a key in a file have.
@@ -310,12 +254,8 @@ impl<'a, 'p> FactSpots<'a, 'p> {
     pub fn row_count(&self) -> u128
         ensures { result ≡ rows_counted self.now }
     {
-        match self.walk.groups {
-            Groups::Held(entries) => count_held(entries),
-            Groups::Searched(key, shown) => {
-                count_searched(self.walk.sort, self.walk.archive, key, shown)
-            }
-        }
+        let Groups { key, shown } = self.walk.groups;
+        count_searched(self.walk.sort, self.walk.archive, key, shown)
     }
 }
 
@@ -342,19 +282,4 @@ impl<'a, 'p> Iterator for FactRows<'a, 'p> {
         let spot = self.next_spot()?;
         Some(spot.row())
     }
-}
-
-/// The most facts that a search gives as soon as an index: each is compared with those of its line.
-const FEW: usize = 512;
-
-/// Whether no more facts than that are left.
-pub(crate) fn are_few(rows: FactRows<'_, '_>) -> bool {
-    let mut left = rows;
-    'facts: for _fact in 0..FEW {
-        match left.next_spot() {
-            Some(_) => {}
-            None => return true,
-        }
-    }
-    false
 }

@@ -1,5 +1,5 @@
-//! The five indexes: of each the entries in the order of its kind, and the versions that are
-//! pending until a question comes.
+//! An index: its entries in the order of its kind, and the versions that are pending until a
+//! question comes.
 ghost use Rattle.std.specs.Prelude.{◌≡◌, ◌≤◌, ◌+◌, ◌++◌, ◌∷◌, [], List, OnOk, Some, false};
 ghost use Rattle.std.specs.Prelude.{filter, length, true, vec_capacity};
 ghost use Rattle.std.specs.List.{AllByRecursion};
@@ -23,7 +23,6 @@ ghost use Rattle.cb_index.specs.steps.ToCome.{is_asked};
 use crate::archive::{Archive, OutOfMemory};
 use crate::blocks::{BlockList, Blocks, Place, Run, lower_bound, take_named};
 use crate::entry::{Asked, FactKind, IndexKind, Posting, Shown};
-use crate::links::Mention;
 use crate::order::{EntryBound, Side, append, compare, count, prefix};
 use crate::shelf::Room;
 use crate::shown::place_of_name;
@@ -431,23 +430,19 @@ impl Index {
         self.pending.is_empty()
     }
 
-    /// Puts what is pending in order among the entries that are held, in the room that is there.
-    /// With a list as scratch it lays the links of their versions first. It takes no memory.
-    pub(crate) fn flush(&mut self, archive: &mut Archive, scratch: &mut Vec<Mention>)
+    /// Puts what is pending in order among the entries that are held, in the room that is there. It
+    /// takes no memory.
+    pub(crate) fn flush(&mut self, archive: &Archive)
         requires order { self.old.held
-            ≡ in_order (sort_key (keyer_of self.old.kind) archive.old) self.old.held }
+            ≡ in_order (sort_key (keyer_of self.old.kind) archive.now) self.old.held }
         requires room { length self.old.held
-            + length (all_entries (lister_of self.old.kind) archive.old self.old.pending)
+            + length (all_entries (lister_of self.old.kind) archive.now self.old.pending)
             ≤ self.old.room }
-        ensures held { self.new.held ≡ in_order (sort_key (keyer_of self.old.kind) archive.old)
-            (self.old.held ++ all_entries (lister_of self.old.kind) archive.old self.old.pending) }
-        ensures archive { archive.new ≡ archive.old }
+        ensures held { self.new.held ≡ in_order (sort_key (keyer_of self.old.kind) archive.now)
+            (self.old.held ++ all_entries (lister_of self.old.kind) archive.now self.old.pending) }
         ensures pending { self.new.pending ≡ [] }
         ensures itself { StaysItself self.old self.new }
     {
-        if let IndexKind::Facts(kind) = self.kind {
-            archive.lay_each(self.pending.as_slice(), kind, scratch);
-        }
         self.postings
             .put_each(self.kind, archive, self.pending.as_slice());
         self.pending.clear();

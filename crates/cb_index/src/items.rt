@@ -2,13 +2,16 @@
 //! a call among its calls, from 0. Facts of one key on one line that have the same name in the
 //! function column have one row.
 ghost use Rattle.std.specs.Prelude.{◌≡◌, ◌<◌, ◌^◌, ◌∷◌, [], MatchOption, true};
+ghost use Rattle.std.specs.Str.{bytes_eq};
 ghost use Rattle.cb_index.specs.Counts.{row_count};
+ghost use Rattle.cb_index.specs.Hash.{hash};
 ghost use Rattle.cb_index.specs.Items.{have_one_key, is_first, item_count, item_key, item_line};
 ghost use Rattle.cb_index.specs.Items.{item_span, later};
 ghost use Rattle.cb_index.specs.steps.Chains.{chain_left};
 ghost use Rattle.cb_index.specs.steps.Spread.{items_from};
 
 use crate::archive::{ScannedSource, Version, bytes_at};
+use crate::columns::{hash, is_near};
 use crate::entry::FactKind;
 use crate::repeats::is_repeat;
 use cb_scan::{Facts, Span};
@@ -69,56 +72,65 @@ pub(crate) fn item_line(sort: FactKind, facts: &Facts, item: u32) -> u32
     }
 }
 
-/// The key of an item; empty where it is not there.
+/// The key of an item of a text; empty where it is not there.
+pub(crate) fn key_in(sort: FactKind, text: &ScannedSource, item: u32) -> &[u8]
+    ensures { result.now ≡ item_key sort text.now item }
+{
+    bytes_at(text.source().bytes(), item_span(sort, text.facts(), item))
+}
+
+/// The key of an item of a version; empty where it is not there.
 pub(crate) fn item_key(sort: FactKind, version: &Version, item: u32) -> &[u8]
     ensures { result.now ≡ item_key sort version.now item }
 {
-    bytes_at(
-        version.source().bytes(),
-        item_span(sort, version.facts(), item),
-    )
+    key_in(sort, version.text(), item)
 }
 
-/// Whether two items have one key.
-fn have_one_key(sort: FactKind, version: &Version, a: u32, b: u32) -> bool
-    ensures { result ≡ have_one_key sort version.now a b }
+/// Whether the keys of two items stand at one place of the text: calls of one function have its
+/// name, which may be long, and stand around many.
+pub(crate) fn have_one_place(sort: FactKind, facts: &Facts, a: u32, b: u32) -> bool
+    ensures { result ≡ true → item_span sort facts.now a ≡ item_span sort facts.now b }
 {
-    item_key(sort, version, a) == item_key(sort, version, b)
-}
-
-/// Whether no item before an item has its key, by a search.
-fn search_first(sort: FactKind, version: &Version, item: u32) -> bool
-    ensures { result ≡ is_first sort version.now item }
-{
-    for before in 0..item {
-        if have_one_key(sort, version, item, before) {
-            return false;
-        }
+    match (item_span(sort, facts, a), item_span(sort, facts, b)) {
+        (Some(one), Some(other)) => one.start == other.start && one.end == other.end,
+        _ => false,
     }
-    true
 }
 
-/// The next item that has the key of an item, by a search.
-fn search_next(sort: FactKind, version: &Version, item: u32) -> Option<u32>
-    ensures { MatchOption result (later sort version.now item ≡ [])
-        (λ next. later sort version.now item ≡ next ∷ later sort version.now next) }
+/// Whether two items of a text have one key.
+pub(crate) fn share_key(sort: FactKind, text: &ScannedSource, a: u32, b: u32) -> bool
+    ensures { result ≡ have_one_key sort text.now a b }
 {
-    for next in item as usize + 1..item_count(sort, version) {
-        if have_one_key(sort, version, item, next as u32) {
-            return Some(next as u32);
-        }
-    }
-    None
+    have_one_place(sort, text.facts(), a, b) || key_in(sort, text, a) == key_in(sort, text, b)
+}
+
+/// Whether an item has the key of another one, whose hash is this.
+fn has_key_of(sort: FactKind, version: &Version, item: u32, own: u32, other: u32) -> bool
+    requires { own ≡ hash (item_key sort version.now item) }
+    ensures { result ≡ have_one_key sort version.now item other }
+{
+    is_near(version.column(sort), other, own) && share_key(sort, version.text(), item, other)
+}
+
+/// Whether an item has a key, whose hash is this.
+pub(crate) fn has_key(sort: FactKind, version: &Version, key: &[u8], own: u32, item: u32) -> bool
+    requires { own ≡ hash key.now }
+    ensures { result ≡ bytes_eq key.now (item_key sort version.now item) }
+{
+    is_near(version.column(sort), item, own) && key == item_key(sort, version, item)
 }
 
 /// Whether no item before an item has its key.
 pub(crate) fn is_first(sort: FactKind, version: &Version, item: u32) -> bool
     ensures { result ≡ is_first sort version.now item }
 {
-    match version.link(sort, item) {
-        Some(link) => link.first,
-        None => search_first(sort, version, item),
+    let hash = hash(item_key(sort, version, item));
+    for before in 0..item {
+        if has_key_of(sort, version, item, hash, before) {
+            return false;
+        }
     }
+    true
 }
 
 /// The next item that has the key of an item.
@@ -126,16 +138,13 @@ fn next_of_key(sort: FactKind, version: &Version, item: u32) -> Option<u32>
     ensures { MatchOption result (later sort version.now item ≡ [])
         (λ next. later sort version.now item ≡ next ∷ later sort version.now next) }
 {
-    match version.link(sort, item) {
-        Some(link) => {
-            if link.next == 0 {
-                None
-            } else {
-                Some(link.next)
-            }
+    let hash = hash(item_key(sort, version, item));
+    for next in item as usize + 1..item_count(sort, version) {
+        if has_key_of(sort, version, item, hash, next as u32) {
+            return Some(next as u32);
         }
-        None => search_next(sort, version, item),
     }
+    None
 }
 
 /// The items of one key that are still to come.

@@ -1,15 +1,15 @@
 //! Versions of files and sorted indexes of their facts.
 //!
 //! An [`Archive`] keeps file names and versions, each under a number. A [`Shelf`] has an archive
-//! and shows some of its versions, each under a file name, with five sorted indexes of what is
-//! found in them. The crate stands on `cb_scan` (facts) and `cb_tags` (tag names). The layer above
+//! and shows some of its versions, each under a file name, with two sorted indexes of the
+//! definitions in them. The crate stands on `cb_scan` (facts) and `cb_tags` (tag names). The layer above
 //! uses the contracts of [`Shelf`]: its readers give exactly the facts of the files that are shown.
 #![tactic(auto)]
 
 // What is kept: names and versions, each under a number, with what is found in them.
 mod archive;
 
-// What is shown of it: the shelf with its five indexes, the list of what it shows, and how many
+// What is shown of it: the shelf with its indexes, the list of what it shows, and how many
 // facts that has.
 mod shelf;
 mod shown;
@@ -33,10 +33,10 @@ mod sort;
 // What is kept in blocks: places in them, what is lent from them, and lists in blocks.
 mod blocks;
 
-// The uses and calls of one key in a version, the links between them, and those whose rows are
-// equal.
+// The uses and calls of one key in a version, the columns by which they are found, and those whose
+// rows are equal.
+mod columns;
 mod items;
-mod links;
 mod repeats;
 
 // An index of rows for its own sake, and the laws of the orders.
@@ -48,7 +48,6 @@ pub use entry::{FactKind, IndexKind, Posting, Shown};
 pub use facts::{FactRows, FactSpots};
 pub use files::ShownFiles;
 pub use includes::{Entries, IncludeRows};
-pub use links::Links;
 pub use rows::{FactRow, FactSpot, TagSpot};
 pub use shelf::{Room, Shelf};
 pub use shown::are_rising;

@@ -1,16 +1,20 @@
 //! Items whose row is that of an earlier item, and the name in the function column.
-ghost use Rattle.std.specs.Prelude.{◌≡◌, ◌∷◌, [], true, MatchOption};
+ghost use Rattle.std.specs.Prelude.{◌≡◌, ◌∷◌, [], true, ℕ, MatchOption};
 ghost use Rattle.std.specs.Str.{bytes_eq};
+ghost use Rattle.cb_index.specs.Columns.{cells_to};
 ghost use Rattle.cb_index.specs.Counts.{function_of};
+ghost use Rattle.cb_index.specs.Hash.{hash};
+ghost use Rattle.cb_index.specs.Items.{item_key};
 ghost use Rattle.cb_index.specs.Repeats.{have_one_row, is_repeat};
 ghost use Rattle.cb_index.specs.steps.Found.{fact_at};
 ghost use Rattle.cb_index.specs.steps.Given.{given_left};
 ghost use Rattle.cb_index.specs.steps.Left.{fact_of_spot};
 ghost use Rattle.cb_index.specs.steps.FunctionSpans.{function_span};
 
-use crate::archive::{ScannedSource, Version, bytes_at};
+use crate::archive::{ScannedSource, Version};
+use crate::columns::{Cell, hash, is_near};
 use crate::entry::FactKind;
-use crate::items::{Chain, item_line, item_span};
+use crate::items::{Chain, item_line, item_span, key_in, share_key};
 use crate::rows::{FactSpot, fact_in};
 use cb_scan::{Facts, Span};
 
@@ -41,12 +45,13 @@ fn function_span(sort: FactKind, facts: &Facts, item: u32) -> Option<Span>
     }
 }
 
-/// Whether two items show a name at one place of the text.
+/// Whether two items show a name at one place of the text, or none of the text.
 pub(crate) fn have_one_span(sort: FactKind, facts: &Facts, a: u32, b: u32) -> bool
     ensures { result ≡ true → function_span sort facts.now a ≡ function_span sort facts.now b }
 {
     match (function_span(sort, facts, a), function_span(sort, facts, b)) {
         (Some(one), Some(other)) => one.start == other.start && one.end == other.end,
+        (None, None) => true,
         _ => false,
     }
 }
@@ -76,24 +81,41 @@ fn have_one_row(sort: FactKind, text: &ScannedSource, a: u32, b: u32) -> bool
 {
     let one = fact_in(sort, b"", text, a);
     let other = fact_in(sort, b"", text, b);
-    (other.line == one.line && have_one_function(sort, text, a, b))
-        && bytes_at(text.source().bytes(), item_span(sort, text.facts(), a))
-            == bytes_at(text.source().bytes(), item_span(sort, text.facts(), b))
+    (other.line == one.line && have_one_function(sort, text, a, b)) && share_key(sort, text, a, b)
+}
+
+/// Whether an item has the key of another one, whose hash is this, and its row. The cells are those
+/// of the first items.
+fn has_row_of(
+    sort: FactKind,
+    text: &ScannedSource,
+    cells: &[Cell],
+    item: u32,
+    own: u32,
+    other: u32,
+) -> bool
+    requires hash { own ≡ hash (item_key sort text.now item) }
+    requires cells { (n : ℕ) × (cells.now ≡ cells_to sort text.now n) }
+    ensures { result ≡ have_one_row sort text.now item other }
+{
+    is_near(cells, other, own) && have_one_row(sort, text, item, other)
 }
 
 /// Whether an item is a repeat, by a search back to the last item of a line before its own: items
-/// go by line.
-fn search_repeat(sort: FactKind, version: &Version, item: u32) -> bool
-    ensures { result ≡ is_repeat sort version.now item }
+/// go by line. The cells are those of the first items.
+pub(crate) fn search_repeat(sort: FactKind, text: &ScannedSource, cells: &[Cell], item: u32) -> bool
+    requires { (n : ℕ) × (cells.now ≡ cells_to sort text.now n) }
+    ensures { result ≡ is_repeat sort text.now item }
 {
+    let own = hash(key_in(sort, text, item));
+    let line = item_line(sort, text.facts(), item);
     let mut before = item;
-    let line = item_line(sort, version.facts(), item);
     while before > 0 {
         before -= 1;
-        if item_line(sort, version.facts(), before) < line {
+        if item_line(sort, text.facts(), before) < line {
             return false;
         }
-        if have_one_row(sort, version.text(), item, before) {
+        if has_row_of(sort, text, cells, item, own, before) {
             return true;
         }
     }
@@ -104,9 +126,10 @@ fn search_repeat(sort: FactKind, version: &Version, item: u32) -> bool
 pub(crate) fn is_repeat(sort: FactKind, version: &Version, item: u32) -> bool
     ensures { result ≡ is_repeat sort version.now item }
 {
-    match version.link(sort, item) {
-        Some(link) => link.repeat,
-        None => search_repeat(sort, version, item),
+    let column = version.column(sort);
+    match column.get(item as usize) {
+        Some(cell) => cell.repeat,
+        None => search_repeat(sort, version.text(), column, item),
     }
 }
 

@@ -12,7 +12,7 @@ ghost use Rattle.cb_index.specs.Kinds.{def_kind};
 ghost use Rattle.cb_index.specs.Names.{is_among, names_of};
 ghost use Rattle.cb_index.specs.Rows.{calls_in, calls_of, facts_named, file_facts, tags_by_name};
 ghost use Rattle.cb_index.specs.Rows.{tags_by_tag_name, tags_from_name, tags_named, uses_of};
-ghost use Rattle.cb_index.specs.Shelved.{AreTotals, CanShow, IsIndex, KeepsRoom, files, kind_place};
+ghost use Rattle.cb_index.specs.Shelved.{AreTotals, CanShow, IsIndex, KeepsRoom, def_place, files};
 ghost use Rattle.cb_index.specs.Shelved.{larger_room, with_facts};
 ghost use Rattle.cb_index.specs.declared.entry.Shown.{Shown};
 ghost use Rattle.cb_index.specs.steps.Compact.{IsAmong, renumbered};
@@ -24,13 +24,12 @@ ghost use Rattle.cb_index.specs.steps.ToCome.{asked_tags};
 use crate::archive::{Archive, OutOfMemory, Version, read_bytes};
 use crate::blocks::BlockList;
 use crate::entry::{Asked, FactKind, IndexKind, Shown};
-use crate::facts::{FactRows, are_few};
+use crate::facts::FactRows;
 use crate::files::ShownFiles;
 use crate::includes::Entries;
 use crate::index::{Index, put_in_each, reserve_each, take_from_each, take_names_from_each};
-use crate::links::Mention;
 use crate::shown::{are_there, ascend, has_any_name};
-use crate::tags::{DefSearch, Defs, TagRows, def_kind};
+use crate::tags::{DefSearch, Defs, TagRows};
 use crate::totals::{Totals, totals_of};
 use cb_scan::Profile;
 use std::alloc::Global;
@@ -52,22 +51,20 @@ pub struct Room {
 /// Files are hidden one after another where they are at most this part of what is shown.
 const FEW: usize = 8;
 
-/// An archive, the versions that are shown of it, each under a file name, and five indexes of what
-/// is found in these. No two versions are shown under one file name. Only `reserve` takes memory.
+/// An archive, the versions that are shown of it, each under a file name, and two indexes of the
+/// definitions in these. No two versions are shown under one file name. Only `reserve` takes memory.
 ///
-/// What is found in a version that is shown is pending at first, so that the entries of many are
-/// put in order together by `flush`. Before that a question walks over the files: it answers the
-/// same, in more time.
+/// The definitions of a version that is shown are pending at first, so that those of many are put in
+/// order together by `flush`. Before that a question walks over the files: it answers the same, in
+/// more time. Uses and calls are found file by file.
 #[derive(Drop)]
 pub struct Shelf {
     archive: Archive,
     shown: BlockList<Shown>,
-    indexes: [Index; 5],
+    indexes: [Index; 2],
     totals: Totals,
     room: Room,
     index_updates: u64,
-    /// Scratch: the items of a version, which are sorted to lay its links.
-    mentions: Vec<Mention>,
 }
 
 impl Model for Shelf {
@@ -90,17 +87,11 @@ impl Model for Shelf {
         × AreWithin s.shown.items s.shown.room s.totals s.room s.indexes };
 }
 
-/// The place of an index among the five.
-fn place_of(kind: IndexKind) -> usize
-    ensures { result ≡ kind_place kind }
+/// The place of an index of definitions: by tag name, or by name.
+fn place_of(by_tag_name: bool) -> usize
+    ensures { result ≡ def_place by_tag_name }
 {
-    match kind {
-        IndexKind::DefsByName => 0,
-        IndexKind::DefsByTagName => 1,
-        IndexKind::Facts(FactKind::Uses) => 2,
-        IndexKind::Facts(FactKind::Callees) => 3,
-        IndexKind::Facts(FactKind::Callers) => 4,
-    }
+    if by_tag_name { 1 } else { 0 }
 }
 
 /// The greater room of each.
@@ -126,15 +117,6 @@ fn read_room(room: Room)
     let _facts = (room.defs, room.uses, room.calls);
 }
 
-/// Makes room for `n` mentions in all.
-fn make_room(mentions: &mut Vec<Mention>, n: usize) -> Result<(), OutOfMemory> {
-    mentions.truncate(0);
-    match mentions.reserve(n) {
-        Ok(()) => Ok(()),
-        Err(_) => Err(OutOfMemory),
-    }
-}
-
 impl Shelf {
     /// A shelf that keeps and shows nothing. It takes no memory.
     pub fn new(alloc: Global, profile: Profile) -> Shelf
@@ -150,9 +132,6 @@ impl Shelf {
             indexes: [
                 Index::new(alloc, IndexKind::DefsByName),
                 Index::new(alloc, IndexKind::DefsByTagName),
-                Index::new(alloc, IndexKind::Facts(FactKind::Uses)),
-                Index::new(alloc, IndexKind::Facts(FactKind::Callees)),
-                Index::new(alloc, IndexKind::Facts(FactKind::Callers)),
             ],
             totals: Totals {
                 defs: 0,
@@ -168,7 +147,6 @@ impl Shelf {
                 calls: 0,
             },
             index_updates: 0,
-            mentions: Vec::new(alloc),
         }
     }
 
@@ -218,7 +196,6 @@ impl Shelf {
         ensures room { KeepsRoom self.old self.new }
     {
         let room = larger(&self.room, room);
-        make_room(&mut self.mentions, room.uses.max(room.calls) as usize)?;
         match self.archive.reserve(room.names, room.versions) {
             Ok(()) => {}
             Err(_) => return Err(OutOfMemory),
@@ -472,33 +449,20 @@ impl Shelf {
         }
     }
 
-    /// Puts what is pending in order in an index, in the room that is there, so that it answers at
-    /// once. It changes no answer, and takes no memory.
-    pub fn flush(&mut self, kind: IndexKind)
+    /// Puts what is pending in order in an index of definitions, by tag name or by name, in the room
+    /// that is there, so that it answers at once. It changes no answer, and takes no memory.
+    pub fn flush(&mut self, by_tag_name: bool)
         ensures { self.new ≡ self.old }
     {
-        self.indexes[place_of(kind)].flush(&mut self.archive, &mut self.mentions);
+        self.indexes[place_of(by_tag_name)].flush(&self.archive);
     }
 
-    /// Puts what is pending in order for a question about the facts of a key, but not where these
-    /// are so few that a search gives them as soon. It changes no answer, and takes no memory.
-    pub fn flush_for(&mut self, kind: FactKind, key: &[u8])
-        ensures { self.new ≡ self.old }
-    {
-        if self.index(IndexKind::Facts(kind)).is_flushed() {
-            return;
-        }
-        if !are_few(self.facts(kind, key)) {
-            self.flush(IndexKind::Facts(kind));
-        }
-    }
-
-    /// The index of a kind.
-    fn index(&self, kind: IndexKind) -> &Index
-        ensures kind { result.now.kind ≡ kind }
+    /// The index of definitions by tag name, or by name.
+    fn index(&self, by_tag_name: bool) -> &Index
+        ensures kind { result.now.kind ≡ def_kind by_tag_name }
         ensures index { IsIndex self.now.archive self.now.shown result.now }
     {
-        &self.indexes[place_of(kind)]
+        &self.indexes[place_of(by_tag_name)]
     }
 
     /// Definitions by tag name, or by name: those that are asked for. They are looked up in the
@@ -512,7 +476,7 @@ impl Shelf {
     {
         self.archive.read_texts();
         read_room(self.room);
-        let index = self.index(def_kind(by_tag_name));
+        let index = self.index(by_tag_name);
         if !index.is_flushed() {
             let shown = self.shown.files();
             return TagRows {
@@ -556,8 +520,8 @@ impl Shelf {
         self.in_order(true, Asked::Every)
     }
 
-    /// The uses or calls of a kind that have a key, by file and place. They are looked up in the
-    /// index, or searched in the files where some are pending.
+    /// The uses or calls of a kind that have a key, by file and place. They are searched for in the
+    /// files.
     pub fn facts<'a, 'p>(&'a self, kind: FactKind, key: &'p [u8]) -> FactRows<'a, 'p>
         ensures rows { facts_left result
             ≡ facts_named self.now.archive.profile kind key.now (files self.now) }
@@ -566,14 +530,6 @@ impl Shelf {
         ensures counted { facts_counted result ≡ rows_in_files kind
             (file_facts self.now.archive.profile kind key.now) (files self.now) }
     {
-        let index = self.index(IndexKind::Facts(kind));
-        if index.is_flushed() {
-            return FactRows::held(
-                kind,
-                &self.archive,
-                index.asked(&self.archive, Asked::OfKey(key)),
-            );
-        }
         FactRows::searched(kind, &self.archive, key, self.shown.files())
     }
 

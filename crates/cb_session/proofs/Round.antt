@@ -316,27 +316,3 @@ Reading-answered A limit s next feed after old mid new None x request h e p d = 
 )
 Reading-answered A limit s next feed after old mid new (Some ended) x request h e p d =
     not_unread request ended e
-
--- ---- the state before the prompt is that after it
-pub started : (s t : State) → t ≡ s → (f : First) (next : State) (feed : Reader) (old new : Writer)
-    (r : Result (Option Ended) Reason)
-    → (out_of_memory : Bool) × LeavesRound out_of_memory f t next feed old new r
-    → (out_of_memory : Bool) × LeavesRound out_of_memory f s next feed old new r
-started s t same f next feed old new r p =
-    subst (λ u. (out_of_memory : Bool) × LeavesRound out_of_memory f u next feed old new r) same p
-
-pub started-follows : (limit : ℕ) (s t : State) → t ≡ s → (next : State) (feed after : Reader)
-    (old new : Writer) (r : Result (Option Ended) Reason)
-    → WhateverFollows feed after (λ bytes left.
-    (out_of_memory : Bool) × LeavesRound out_of_memory (first limit bytes) t next left old new r)
-    → WhateverFollows feed after (λ bytes left.
-    (out_of_memory : Bool) × LeavesRound out_of_memory (first limit bytes) s next left old new r)
-started-follows limit s t same next feed after old new r p =
-    subst (λ u. WhateverFollows feed after (λ bytes left. (out_of_memory : Bool)
-    × LeavesRound out_of_memory (first limit bytes) u next left old new r)) same p
-
-pub started-reads : (limit : ℕ) (s t : State) → t ≡ s → (next : State) (feed after : Reader)
-    (old new : Writer) (r : Result (Option Ended) Reason)
-    → ReadsRound limit t next feed after old new r → ReadsRound limit s next feed after old new r
-started-reads limit s t same next feed after old new r p =
-    subst (λ u. ReadsRound limit u next feed after old new r) same p

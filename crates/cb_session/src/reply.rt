@@ -146,7 +146,7 @@ pub(crate) fn put_query<W: Write>(
     ensures written { Puts out.old out.new result
         (answer_lines (answer desk.old.timeline.present field pattern.now)) }
 {
-    desk.settle_for(field, pattern);
+    desk.settle(field);
     put_rows(out, desk.rows(field, pattern))
 }
 

@@ -7,7 +7,6 @@ ghost use Rattle.cb_tags.specs.Readers.{WhateverFollows};
 ghost use Rattle.cb_session.specs.Inputs.{first, ending_of};
 ghost use Rattle.cb_session.specs.Models.{request_of, going_of, HasPattern};
 ghost use Rattle.cb_session.specs.Operands.{file_of_operand, Prepares, Runs};
-ghost use Rattle.cb_session.specs.Output.{prompt};
 ghost use Rattle.cb_session.specs.Requests.{change as change_asked};
 ghost use Rattle.cb_session.specs.Serving.{Does, HasFailed, IfFault, Serves, ServesInputs, Tells};
 ghost use Rattle.cb_session.specs.Serving.{HandsOn, fault_of};
@@ -32,9 +31,6 @@ use std::marker::Model;
 #[derive(Drop)]
 pub struct Session {
     desk: Desk,
-    /// What the last command asked, if it was a question. What it reads is put in order behind its
-    /// reply.
-    asked: Option<Field>,
 }
 
 impl Model for Session {
@@ -53,7 +49,6 @@ impl Session {
     {
         Session {
             desk: Desk::new(alloc, bounds, profile),
-            asked: None,
         }
     }
 
@@ -61,7 +56,7 @@ impl Session {
     pub(crate) fn over(desk: Desk) -> Session
         ensures { result ≡ state_of desk }
     {
-        Session { desk, asked: None }
+        Session { desk }
     }
 
     /// The session's desk.
@@ -117,10 +112,7 @@ impl Session {
             Input::Command(command) => command,
         };
         match command {
-            Command::Query(field, pattern) => {
-                self.asked = Some(field);
-                put_query(out, &mut self.desk, field, pattern)
-            }
+            Command::Query(field, pattern) => put_query(out, &mut self.desk, field, pattern),
             Command::Change(change) => self.change(alloc, change, out),
             Command::Rebuild => put_move(out, self.desk.rebuild(alloc)),
             Command::Undo => put_move(out, self.desk.undo()),
@@ -130,19 +122,6 @@ impl Session {
             Command::Marks => put_marks(out, &self.desk),
             Command::Stack => put_stack(out, &self.desk),
         }
-    }
-
-    /// Prompts, and then, while nobody waits, puts in order what the last question reads.
-    fn prompt<W: Write>(&mut self, out: &mut Sink<W>) -> Result<(), Fault>
-        ensures same { self.new ≡ self.old }
-        ensures put { Puts out.old out.new result prompt }
-        ensures handed_on { IfOk result (λ _. out.new.pending ≡ false) }
-    {
-        put_prompt(out)?;
-        if let Some(field) = self.asked.take() {
-            self.desk.settle(field);
-        }
-        Ok(())
     }
 
     /// Makes a change, and writes its reply.
@@ -243,7 +222,7 @@ impl Session {
             (HasFailed feed.new out.new) }
         ensures told { Tells feed.old feed.new out.old out.new (fault_in result) }
     {
-        self.prompt(out)?;
+        put_prompt(out)?;
         let input = intake.read(alloc, limits, feed)?;
         let ending = input.ending();
         self.answer(alloc, input, out)?;

@@ -17,7 +17,6 @@ ghost use Rattle.cbrowse.specs.Program.{DoesFrom, DoesJob, Works, most_lines};
 ghost use Rattle.cbrowse.specs.Writes.{WritesFile, WritesText, fresh};
 ghost use Rattle.cb_session.specs.Writing.{Puts};
 
-mod crowded;
 mod files;
 mod finish;
 mod list;
@@ -26,7 +25,6 @@ mod process;
 mod storage;
 mod tagsfile;
 
-use crate::execute::crowded::wants_order;
 use crate::execute::files::{OUT_OF_MEMORY, operands_of, read_operands};
 use crate::execute::finish::{
     Finish, bounds_of, conclude, files_of, force_of, most_line_bytes, refuse,
@@ -107,9 +105,7 @@ fn write_rows<W: Write>(field: Field, pattern: &[u8], desk: &mut Desk, out: &mut
     ensures { WritesText (flat_map row_line (answer desk.old.timeline.present field pattern.now))
         out.old out.new result }
 {
-    if wants_order(field, pattern, desk) {
-        desk.settle(field);
-    }
+    desk.settle(field);
     match put_answer(out, desk.rows(field, pattern)) {
         Ok(()) => {}
         Err(fault) => return Ended::Fault(fault),

@@ -1,7 +1,7 @@
 //! What is kept of the files.
 
 use crate::failed::Failed;
-use cb_index::{Links, Room, Shelf, Shown, Version};
+use cb_index::{Room, Shelf, Shown, Version};
 use cb_scan::{Facts, Meter, Profile, Rules, Source, scan};
 use std::alloc::Global;
 
@@ -73,10 +73,9 @@ impl Kept {
             Profile::all_by(Rules::Standard),
             &source,
         )?;
-        let links = Links::new(alloc, &facts)?;
         self.counts.add(&source, &facts);
         let name = push_name(&mut self.shelf, name.to_vec(alloc)?)?;
-        let version = Version::new(Profile::all_by(Rules::Standard), source, facts, links);
+        let version = Version::new(alloc, Profile::all_by(Rules::Standard), source, facts)?;
         let version = push_version(&mut self.shelf, version)?;
         self.files.push(Shown { name, version })?;
         Ok(())

@@ -1,6 +1,6 @@
 //! Files that are shown and hidden by the clock. What is shown is put in order by the clock too.
 use crate::failed::Failed;
-use cb_index::{FactKind, IndexKind, Shelf, Shown, are_rising};
+use cb_index::{Shelf, Shown, are_rising};
 use std::time::{CpuClock, Duration};
 
 /// The nanoseconds of a time; the greatest number where they are more.
@@ -15,13 +15,10 @@ pub(crate) fn clock<R: CpuClock>(rt: &R) -> Result<u64, Failed> {
     Ok(nanos(rt.thread_cpu_time()?))
 }
 
-/// Puts the uses and calls that are pending in order.
+/// Puts the definitions that are pending in order.
 pub(crate) fn flush_all(shelf: &mut Shelf) {
-    shelf.flush(IndexKind::DefsByName);
-    shelf.flush(IndexKind::DefsByTagName);
-    shelf.flush(IndexKind::Facts(FactKind::Uses));
-    shelf.flush(IndexKind::Facts(FactKind::Callees));
-    shelf.flush(IndexKind::Facts(FactKind::Callers));
+    shelf.flush(false);
+    shelf.flush(true);
 }
 
 fn show_all<R: CpuClock>(rt: &R, files: &[Shown], shelf: &mut Shelf) -> Result<u64, Failed> {

@@ -28,7 +28,7 @@ use crate::places::FileLine;
 use crate::plan::{NewVersions, Plan, Record};
 use crate::present::Present;
 use crate::search::TextLines;
-use cb_index::{Archive, IndexKind, ShownFiles};
+use cb_index::{Archive, ShownFiles};
 use cb_scan::Source;
 use memchr::memmem::Finder;
 use std::alloc::{AllocError, Global};
@@ -78,7 +78,7 @@ impl Present {
         ensures there { MatchOption result ⊤ (λ (p : FileLine). p.name < self.old.now.names) }
         ensures still { IsStill self.old self.new }
     {
-        self.settle(IndexKind::DefsByName);
+        self.settle(false);
         let (file, line) = nth_definition(&self.shelf, name, n)?;
         let found = shown_as(&self.shelf, file)?;
         Some(FileLine {

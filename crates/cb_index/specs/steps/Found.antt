@@ -1,6 +1,5 @@
 -- The rows of entries, as they are looked up.
-use Rattle.std.specs.Prelude.{ℕ, false, List, [], Option, Some, None, map, slice_get}
-use Rattle.std.specs.List.{flat_map}
+use Rattle.std.specs.Prelude.{ℕ, false, List, [], Option, Some, None, slice_get}
 use Rattle.std.specs.Option.{option_map}
 use Rattle.cb_scan.specs.declared.facts.Call.{Call}
 use Rattle.cb_scan.specs.declared.facts.Def.{Def}
@@ -12,7 +11,6 @@ use Rattle.cb_tags.specs.TagLines.{Tag, TagScope}
 use Rattle.cb_index.specs.Archived.{Archived, name_of, text_at}
 use Rattle.cb_index.specs.Bytes.{cut, place_at}
 use Rattle.cb_index.specs.Rows.{Fact}
-use Rattle.cb_index.specs.steps.Spread.{items_from}
 use Rattle.cb_index.specs.Scanned.{Scanned, facts_of}
 use Rattle.cb_index.specs.declared.entry.Posting.{Posting}
 use Rattle.cb_index.specs.declared.entry.FactKind.{FactKind}
@@ -97,15 +95,3 @@ abbrev pub fact_at : FactKind → List ℕ → Scanned → ℕ → Fact
 fact_at Uses file text item = fact_of_use file text.bytes (slice_get (facts_of text).uses item)
 fact_at Callees file text item = fact_of_call file text.bytes (slice_get (facts_of text).calls item)
 fact_at Callers file text item = fact_of_call file text.bytes (slice_get (facts_of text).calls item)
-
-abbrev pub facts_in_text : FactKind → List ℕ → ℕ → Option Scanned → List Fact
-facts_in_text sort file number None = []
-facts_in_text sort file number (Some text) =
-    map (fact_at sort file text) (items_from sort text number)
-
--- the facts of an entry
-abbrev pub facts_at : FactKind → Archived → Posting → List Fact
-facts_at sort a e = facts_in_text sort (name_of a e.name) e.number (text_at a e.version)
-
-abbrev pub facts_in : FactKind → Archived → List Posting → List Fact
-facts_in sort a es = flat_map (facts_at sort a) es

@@ -12,7 +12,7 @@ use Rattle.cb_index.specs.Rows.{Fact}
 use Rattle.cb_index.specs.Shelved.{ShownFile}
 use Rattle.cb_index.specs.steps.DefSearch.{search_left}
 use Rattle.cb_index.specs.steps.Found.{fact_at, tag_at}
-use Rattle.cb_index.specs.steps.Given.{given_in, given_left}
+use Rattle.cb_index.specs.steps.Given.{given_left}
 use Rattle.cb_index.specs.steps.Runs.{run_items}
 use Rattle.cb_index.specs.steps.ShownIn.{shown_in}
 use Rattle.cb_index.specs.steps.Searched.{searched_at, searched_count}
@@ -27,7 +27,6 @@ use Rattle.cb_index.specs.declared.facts.FactRows.{FactRows}
 use Rattle.cb_index.specs.declared.facts.FactSpots.{FactSpots}
 use Rattle.cb_index.specs.declared.facts.Group.{Group}
 use Rattle.cb_index.specs.declared.facts.Groups.{Groups}
-use Rattle.cb_index.specs.declared.facts.Groups.TheVariants as groups
 use Rattle.cb_index.specs.declared.facts.Walk.{Walk}
 use Rattle.cb_index.specs.declared.entry.FactKind.{FactKind}
 use Rattle.cb_index.specs.declared.tags.Defs.{Defs}
@@ -80,14 +79,11 @@ group_left_if all (Some g) = group_left all g
 
 -- the facts of groups that are still to come
 abbrev pub groups_left : Bool → FactKind → Archived → Groups → List Fact
-groups_left all sort a (groups.Held entries) = given_in all sort a (run_items entries)
-groups_left all sort a (groups.Searched key shown) =
-    flat_map (searched_at all sort a key.now) (shown_in shown)
+groups_left all sort a g = flat_map (searched_at all sort a g.key.now) (shown_in g.shown)
 
--- how many groups are still to come
+-- how many files are still to be searched
 abbrev pub group_count : Groups → ℕ
-group_count (groups.Held entries) = length (run_items entries)
-group_count (groups.Searched key shown) = length (shown_in shown)
+group_count g = length (shown_in g.shown)
 
 abbrev pub walk_left : Bool → Walk → List Fact
 walk_left all w = group_left_if all w.group ++ groups_left all w.sort w.archive.now w.groups
@@ -104,9 +100,7 @@ spots_left r = walk_left false r.walk
 
 -- how many rows the groups that are still to come have; what has begun is not counted
 abbrev pub groups_counted : FactKind → Archived → Groups → ℕ
-groups_counted sort a (groups.Held entries) = sum_by (λ (e : Posting). e.rows) (run_items entries)
-groups_counted sort a (groups.Searched key shown) =
-    sum_by (searched_count sort a key.now) (shown_in shown)
+groups_counted sort a g = sum_by (searched_count sort a g.key.now) (shown_in g.shown)
 
 abbrev pub rows_counted : FactSpots → ℕ
 rows_counted r = groups_counted r.walk.sort r.walk.archive.now r.walk.groups

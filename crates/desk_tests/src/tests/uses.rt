@@ -56,7 +56,6 @@ fn uses_and_calls_of_a_name_come_by_file_and_place(rt: HostRuntime) -> Result<()
     let mut desk = two_users(rt.alloc())?;
     come_with_places(&rt, &desk);
     for field in [Field::Symbol, Field::Called, Field::Calling] {
-        desk.settle_for(field, b"f");
         desk.settle(field);
     }
     come_with_places(&rt, &desk);

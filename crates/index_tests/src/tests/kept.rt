@@ -1,5 +1,5 @@
 //! Texts with their facts, and shelves and archives that keep them.
-use cb_index::{Archive, Links, Room, Shelf, Shown, Version};
+use cb_index::{Archive, Room, Shelf, Shown, Version};
 use cb_scan::{Meter, Profile, Rules, Source, scan};
 use std::alloc::Global;
 use std::test::Fail;
@@ -30,8 +30,8 @@ fn version_of(alloc: Global, text: &[u8]) -> Result<Version, Fail> {
         Profile::all_by(Rules::Standard),
         &source,
     )?;
-    match Links::new(alloc, &facts) {
-        Ok(links) => Ok(Version::new(Profile::all_by(Rules::Standard), source, facts, links)),
+    match Version::new(alloc, Profile::all_by(Rules::Standard), source, facts) {
+        Ok(version) => Ok(version),
         Err(_) => Err(Fail::from("out of memory")),
     }
 }

@@ -1,6 +1,6 @@
 //! What a shelf shows, on files whose facts are worked out by hand.
 use super::kept::{FIRST, OTHER, keep};
-use cb_index::{FactKind, FactRows, IndexKind, Shelf, Shown, TagRows, Totals, are_rising};
+use cb_index::{FactKind, FactRows, Shelf, Shown, TagRows, Totals, are_rising};
 use cb_scan::{Profile, Rules};
 use std::alloc::Global;
 use std::process::Abort;
@@ -110,11 +110,8 @@ fn shows_places(rt: &impl Abort, shelf: &Shelf) -> Result<(), Fail> {
 
 /// Puts what is pending in order.
 fn flush_all(shelf: &mut Shelf) {
-    shelf.flush(IndexKind::DefsByName);
-    shelf.flush(IndexKind::DefsByTagName);
-    shelf.flush(IndexKind::Facts(FactKind::Uses));
-    shelf.flush(IndexKind::Facts(FactKind::Callees));
-    shelf.flush(IndexKind::Facts(FactKind::Callers));
+    shelf.flush(false);
+    shelf.flush(true);
 }
 
 /// The files, by name.

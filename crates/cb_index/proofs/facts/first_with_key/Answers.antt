@@ -4,18 +4,19 @@ use Rattle.std.proofs.lemmas.Bool.{cases_lt}
 use Rattle.cb_index.specs.Items.{item_count}
 use Rattle.cb_index.specs.steps.Searched.{items_with}
 use Rattle.cb_index.proofs.FirstLemmas.{has, is_first_of_key}
-use Rattle.cb_index.proofs.SearchLemmas.{with_found, with_from, with_passed}
+use Rattle.cb_index.specs.Columns.{HasNone, column_of}
+use Rattle.cb_index.proofs.SearchLemmas.{none_with, with_found, with_from, with_passed}
 use Rattle.cb_index.proofs.facts.first_with_key.Goals as goal
 
-pub returns-then-eq-clause-first : goal.returns-then-eq-clause-first
-returns-then-eq-clause-first c =
+pub returns-then-has_key-clause-first : goal.returns-then-has_key-clause-first
+returns-then-has_key-clause-first c =
     let is : has c.args.sort c.args.version.now c.args.key.now c.loop-item.item ≡ true =
     search rules in
     is_first_of_key c.args.sort c.args.version.now c.args.key.now c.loop-item.item is
     c.loop-item.invariant.none
 
-pub returns-then-eq-clause-items : goal.returns-then-eq-clause-items
-returns-then-eq-clause-items c =
+pub returns-then-has_key-clause-items : goal.returns-then-has_key-clause-items
+returns-then-has_key-clause-items c =
     let is : has c.args.sort c.args.version.now c.args.key.now c.loop-item.item ≡ true =
     search rules in
     let below : c.loop-item.item < item_count c.args.sort c.args.version.now = omega arith in
@@ -46,3 +47,12 @@ loop-item-preserved c =
           ap (has sort text key) same ∙ isnt)
           (cases_lt before item);
     }
+
+-- the signature has no flag for it
+pub returns-then-not-may_have-clause-items : goal.returns-then-not-may_have-clause-items
+returns-then-not-may_have-clause-items c =
+    let sort = c.args.sort in
+    let text = c.args.version.now in
+    none_with sort text c.args.key.now
+    (subst (λ h. HasNone h (column_of sort text)) c.hash-hash.ensures
+    (c.may_have.ensures sort c.if-not-may_have.true))

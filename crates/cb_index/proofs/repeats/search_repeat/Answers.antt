@@ -9,7 +9,7 @@ use Rattle.cb_index.proofs.repeats.search_repeat.Goals as goal
 pub returns-then-item_line-line : goal.returns-then-item_line-line
 returns-then-item_line-line c =
     let sort = c.args.sort in
-    let text = c.args.version.now in
+    let text = c.args.text.now in
     let k = c.loop-before.before in
     let own : c.item_line-line.result ≡ item_line sort (facts_of text) c.args.item =
     c.item_line-line.ensures ∙ ap (λ f. item_line sort f c.args.item) c.facts.ensures in
@@ -19,28 +19,26 @@ returns-then-item_line-line c =
     c.loop-before.invariant.0 (omega (arith, own, other, c.if-item_line-line.true))
     ∙ c.loop-before.invariant.1
 
-pub returns-then-have_one_row : goal.returns-then-have_one_row
-returns-then-have_one_row c =
+pub returns-then-has_row_of : goal.returns-then-has_row_of
+returns-then-has_row_of c =
     let k = c.loop-before.before in
-    any_found (have_one_row c.args.sort c.args.version.now c.args.item) k (k - 1)
+    any_found (have_one_row c.args.sort c.args.text.now c.args.item) k (k - 1)
     (omega (arith, c.loop-before-test.true))
-    (ap (λ t. have_one_row c.args.sort t c.args.item (k - 1)) (sym c.text.ensures)
-    ∙ sym c.have_one_row.ensures ∙ c.if-have_one_row.true)
+    (sym c.has_row_of.ensures ∙ c.if-has_row_of.true)
     ∙ c.loop-before.invariant.1
 
 pub loop-before-preserved : goal.loop-before-preserved
 loop-before-preserved c =
     let k = c.loop-before.before in (
       omega (arith, c.loop-before.invariant.0),
-      any_passed (have_one_row c.args.sort c.args.version.now c.args.item) k (k - 1)
+      any_passed (have_one_row c.args.sort c.args.text.now c.args.item) k (k - 1)
           (omega (arith, c.loop-before-test.true))
-          (ap (λ t. have_one_row c.args.sort t c.args.item (k - 1)) (sym c.text.ensures)
-          ∙ sym c.have_one_row.ensures ∙ c.if-have_one_row.false)
+          (sym c.has_row_of.ensures ∙ c.if-has_row_of.false)
           ∙ c.loop-before.invariant.1,
     )
 
 pub returns : goal.returns
 returns c =
-    any_none (have_one_row c.args.sort c.args.version.now c.args.item) c.loop-before.before
+    any_none (have_one_row c.args.sort c.args.text.now c.args.item) c.loop-before.before
     (omega (arith, c.loop-before-test.false))
     ∙ c.loop-before.invariant.1

@@ -6,19 +6,15 @@ use Rattle.cb_session.specs.Output.{row_line}
 use Rattle.cb_tags.specs.Writing.{PutsAll, PutsPrefix}
 use Rattle.cb_tags.proofs.Prefixes.{PutsPrefix-after, PutsPrefix-none}
 use Rattle.cbrowse.proofs.execute.write_rows.Goals as goal
-use Rattle.cbrowse.proofs.execute.write_rows.Goals.{then-wants_order, else-wants_order}
 
 pub returns-in-Err-flush : goal.returns-in-Err-flush
 returns-in-Err-flush g c =
     let text =
     flat_map row_line (answer c.args.desk.now.timeline.present c.args.field c.args.pattern.now) in
-    let kept : c.if-wants_order.desk ≡ c.args.desk.now =
-    elim c.if-wants_order.branch
-    [ then-wants_order w ↦ w.desk-is ∙ w.settle.ensures | else-wants_order w ↦ w.desk-is ] in
     let rows_are : c.rows.result
     ≡ answer c.args.desk.now.timeline.present c.args.field c.args.pattern.now =
     c.rows.ensures ∙ ap (λ (d : DeskState). answer d.timeline.present c.args.field c.args.pattern.now)
-    kept in
+    c.settle.ensures in
     let put : PutsAll c.args.out.now c.put_answer.new.out text =
     subst (λ rows. PutsAll c.args.out.now c.put_answer.new.out (flat_map row_line rows)) rows_are
     c.in-Ok.ensures.0 in

@@ -50,7 +50,7 @@ returns-clause-tags c =
     let kind = def_kind c.args.by_tag_name in
     let asked = c.args.asked in
     let x = c.index-index.result.now in
-    let same = c.index-index.ensures.kind ∙ c.def_kind.ensures in
+    let same = c.index-index.ensures.kind in
     let is =
     subst (λ (s : Shelved). IsIndex s.archive s.shown x)
     (sym c.self.view_is) c.index-index.ensures.index in

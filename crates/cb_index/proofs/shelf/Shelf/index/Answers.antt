@@ -7,4 +7,4 @@ returns-clause-kind c =
     let xs = c.self.inside.indexes in
     let d = c.index-self-place_of.result in
     ap (λ n. (slice_index_or xs n d).kind) c.place_of.ensures
-    ∙ kind_at c.args.kind xs d c.self.invariant.0.kinds
+    ∙ kind_at c.args.by_tag_name xs d c.self.invariant.0.kinds

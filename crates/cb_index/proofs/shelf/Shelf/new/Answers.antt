@@ -7,24 +7,13 @@ use Rattle.cb_index.proofs.shelf.Shelf.new.Goals as goal
 
 pub invariant_of-result : goal.invariant_of-result
 invariant_of-result c =
-    let xs =
-    c.new-3.result ∷ c.new-4.result ∷ c.new-5.result ∷ c.new-6.result ∷ c.new-7.result ∷ [] in
+    let xs = c.new-3.result ∷ c.new-4.result ∷ [] in
     let kinds : kinds_of xs ≡ all_kinds =
-    λ i. c.new-3.ensures.kind i ∷ c.new-4.ensures.kind i ∷ c.new-5.ensures.kind i
-    ∷ c.new-6.ensures.kind i ∷ c.new-7.ensures.kind i ∷ [] in
+    λ i. c.new-3.ensures.kind i ∷ c.new-4.ensures.kind i ∷ [] in
     let none = ap length c.new-2.ensures in (
       kept_none c.new.result c.new-2.result.items xs c.new-2.ensures kinds (
         (c.new-3.ensures.held, c.new-3.ensures.pending),
-        (
-          (c.new-4.ensures.held, c.new-4.ensures.pending),
-          (
-            (c.new-5.ensures.held, c.new-5.ensures.pending),
-            (
-              (c.new-6.ensures.held, c.new-6.ensures.pending),
-              ((c.new-7.ensures.held, c.new-7.ensures.pending), tt),
-            ),
-          ),
-        ),
+        ((c.new-4.ensures.held, c.new-4.ensures.pending), tt),
       ),
       totals_none c.new.result c.new-2.result.items c.new-2.ensures,
       record {

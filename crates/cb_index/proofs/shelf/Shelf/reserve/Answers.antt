@@ -5,13 +5,9 @@ use Rattle.cb_index.proofs.KeptLemmas.{kept_as, kept_list, kept_moved, larger_fi
 use Rattle.cb_index.proofs.TotalLemmas.{totals_moved}
 use Rattle.cb_index.proofs.shelf.Shelf.reserve.Goals as goal
 
--- the scratch list was refused
-pub invariant_of-self : goal.invariant_of-self
-invariant_of-self c = c.self.invariant
-
 -- the archive was refused
-pub invariant_of-self-in-Err : goal.invariant_of-self-in-Err
-invariant_of-self-in-Err c =
+pub invariant_of-self : goal.invariant_of-self
+invariant_of-self c =
     let x = c.self.inside in (
       kept_moved x.archive c.reserve.new.self x.shown.items x.indexes c.reserve.ensures.same_profile
           c.reserve.ensures.same_names

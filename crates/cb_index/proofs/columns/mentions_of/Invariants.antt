@@ -1,0 +1,11 @@
+use Rattle.std.proofs.Common.{◌≡◌, ◌+◌, ◌-◌, ◌≤◌, map, vec_len, vec_capacity}
+use Rattle.std.specs.List.{range_with_len}
+use Rattle.cb_index.specs.Items.{item_count}
+use Rattle.cb_index.specs.steps.Marking.{mention_of}
+use Rattle.cb_index.proofs.columns.mentions_of.Given as goal
+
+abbrev pub invariant-loop-item : goal.invariant-loop-item
+invariant-loop-item l = record {
+  mentions : l.mentions.items ≡ map (mention_of l.sort l.text) (range_with_len 0 l.item);
+  room : vec_len l.mentions + (item_count l.sort l.text - l.item) ≤ vec_capacity l.mentions;
+}
