@@ -1,5 +1,5 @@
 #!/usr/bin/env python3
-"""How fast five sorted indexes of real sources are filled, changed and asked, beside cscope.
+"""How fast a shelf of real sources is filled, changed and asked, beside cscope.
 
     (cd crates/index_bench && rt run) && bench/index.py FOLDER
     bench/index.py --program PATH FOLDER
@@ -8,7 +8,7 @@ The program `crates/index_bench` scans the C sources of the folder, at most 4,09
 as `--files` says, and keeps them on a shelf of `cb_index`. Then it measures, with the clock of its
 processor time:
 
-filled      all files shown together, which fills the five indexes; and hidden together
+filled      all files shown together, which fills the two indexes; and hidden together
 one by one  all files shown one after the other
 one file    a file of median size, and the largest, hidden and shown again among all others
 first row   the first row of a question, for the names of some definitions: definitions, uses, calls
@@ -80,7 +80,7 @@ def put_time(label, nanoseconds, key=None):
 
 
 def report(pairs):
-    """The figures of the program; the seconds in which all five indexes are filled."""
+    """The figures of the program; the seconds in which both indexes are filled."""
     counts = {
         word: int(rest)
         for word, rest in pairs

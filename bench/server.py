@@ -20,7 +20,7 @@ ready     From the start to the reply to `initialize`, and from the start to the
 ask       `definition`, `hover` and `documentHighlight` at a thousand names in the files that are
           defined somewhere, `completion` behind the second letter of each, and `definition` at a
           thousand headers, which looks at all files;
-          `references` at these names, behind a first one that puts uses in order, and at the name
+          `references` at these names, the first of them alone, too, and at the name
           that is used most; `rename` of a name with 10,000 uses in ten documents; incoming and
           outgoing calls of the functions and macros that these names mean, and of a function that
           1,000 functions of its file call, and of one that calls these; `documentSymbol` of files

@@ -22,16 +22,15 @@ All files     a text is changed in all of them, and that undone and redone. The 
 Many changes  65,536 times `:mark 1`, and as many times `:undo`, in one go.
 Loads         all files by `:load`, one after the other, in one go, as a multiple of the time of
               `r`.
-First         the first question of each kind in a new session, for a name that is not there. Its
-              index is put in order behind the reply, or before it for definitions; so the same
-              question at once waits for that, and only then once more shows an index in order.
+First         the first question of each kind in a new session, for a name that is not there, and
+              the same once more. The first one about definitions puts their index in order.
 Questions     where a name is defined, for a thousand names: the median, and the time that 95 in 100
               stay below. `cscope -d -q -l` answers the same in the same way.
 Rows          the uses of the names that stand most often in the files: until the first bytes of the
-              reply, which is a sum over the entries of the index, since the number of rows comes
-              first, and as many rows as fill a buffer; and until its last ones, by row. `cscope -d
-              -q -l` answers the same. They are read on another core: on one core the program goes
-              on writing before the first bytes are seen.
+              reply, which begins with the number of rows, so that all of them are found and counted
+              first, and has as many rows as fill a buffer; and until its last ones, by row.
+              `cscope -d -q -l` answers the same. They are read on another core: on one core the
+              program goes on writing before the first bytes are seen.
 Tags          `:tags 2`.
 
 Other work on the machine makes the times longer: run it twice, and on an idle machine.
@@ -287,7 +286,7 @@ def loads(cbrowse, folder, sizes, scanned):
 
 
 def first_questions(words, folder):
-    """The first question of each kind; the session, which has put all in order."""
+    """The first question of each kind; the session, which has put its definitions in order."""
     session = Session(words, folder)
     for label, field in (
         ("uses", b"0"),
@@ -295,12 +294,8 @@ def first_questions(words, folder):
         ("callees", b"2"),
         ("callers", b"3"),
     ):
-        first, at_once, again = (session.do(field + b"NoSuchName") for _ in range(3))
-        put(
-            f"first question about {label}",
-            first * 1000,
-            f"at once again {at_once * 1000:.1f} ms, then {again * 1000:.4f} ms",
-        )
+        first, again = (session.do(field + b"NoSuchName") for _ in range(2))
+        put(f"first question about {label}", first * 1000, f"again {again * 1000:.4f} ms")
     return session
 
 

@@ -8,10 +8,10 @@ Each text is one file of a million bytes, the most that a file may have: one sha
 most of them on a single line. Further rows have single lines on which equal rows are far apart or
 very many, and 4,096 files that all define one name. A session takes the files as operands, scans
 them again (`r`), and is asked each of the seven fields about the names in them. Of single lines,
-where each row would show a million bytes, it is asked about a name that is not there, which still
-puts all facts in order. Shown are the processor time (user and system) of the whole session on one
-core, the least of several, and the most memory that it had resident; "times" is the time as a
-multiple of that of ordinary code in as many bytes and files.
+where each row would show a million bytes, it is asked about a name that is not there. Shown are the
+processor time (user and system) of the whole session on one core, the least of several, and the
+most memory that it had resident; "times" is the time as a multiple of that of ordinary code in as
+many bytes and files.
 
 Braces that are nested, open and closed, are shown by the wide profile too.
 
