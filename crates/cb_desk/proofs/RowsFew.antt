@@ -7,7 +7,7 @@ use Rattle.cb_scan.specs.declared.profile.Profile.{Profile}
 use Rattle.cb_scan.specs.declared.profile.Rules.{Rules}
 use Rattle.cb_scan.specs.declared.profile.Rules.TheVariants.{Standard}
 use Rattle.cb_scan.specs.Definitions.{facts_of}
-use Rattle.cb_scan.specs.Profiles.{all_facts, facts_in, include_alone, kept}
+use Rattle.cb_scan.specs.Profiles.{all_facts, facts_in, kept}
 use Rattle.cb_scan.specs.TextFacts.{TextFacts}
 use Rattle.cb_index.specs.Archived.{Archived, text_at, text_of}
 use Rattle.cb_index.specs.Files.{IsThere, count_for, file_of, files_of, total}
@@ -28,7 +28,7 @@ use Rattle.cb_desk.specs.Answer.{found_include, found_use, found_row, found_rows
 use Rattle.cb_desk.specs.Search.{holds}
 use Rattle.cb_desk.specs.World.{AreValidFiles, File, widest_bounds}
 use Rattle.cb_scan.proofs.FactsFew.{flat-few, includes-few}
-use Rattle.cb_scan.proofs.WideLaws.{same_includes, standard_is}
+use Rattle.cb_scan.proofs.WideLaws.{include_alone, same_includes, standard_is}
 use Rattle.cb_index.proofs.TextLemmas.{text_there}
 use Rattle.cb_desk.proofs.Valid.{all-along, length-kept}
 

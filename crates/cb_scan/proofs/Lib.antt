@@ -35,6 +35,7 @@ pub mod NamedStandard
 pub mod NamedTokens
 pub mod NamedWide
 pub mod OldStyleLemmas
+pub mod OnLevels
 pub mod OpenBodies
 pub mod OpenCalls
 pub mod OrderLemmas

@@ -8,6 +8,7 @@ use Rattle.std.specs.Option.{MatchOption, option_map_or, option_or}
 use Rattle.cb_scan.specs.declared.facts.Kind.{Kind}
 use Rattle.cb_scan.specs.declared.facts.Kind.TheVariants as kind
 use Rattle.cb_scan.specs.declared.facts.Tag.{Tag}
+use Rattle.cb_scan.specs.declared.lex.token.Token.{Token}
 use Rattle.cb_scan.specs.declared.rules.scope.Range.{Range}
 use Rattle.cb_scan.specs.declared.rules.wide.token.WideToken.{WideToken}
 use Rattle.cb_scan.specs.Definitions.{IsNameOf}
@@ -43,7 +44,7 @@ unfolding numbered
 numbered-have P n [] all = tt
 numbered-have P n (x ∷ xs) all = (all.0, numbered-have P (nesting_after x.token n) xs all.1)
 
-declarations-have : (P : WideToken → Type 0) (ends : List Numbered → ℕ → Bool) (fuel : ℕ) (xs : List WideToken)
+pub declarations-have : (P : WideToken → Type 0) (ends : List Numbered → ℕ → Bool) (fuel : ℕ) (xs : List WideToken)
     → AllByRecursion P xs → AllByRecursion (All P) (declarations_from ends fuel xs)
 unfolding declarations_from
 declarations-have P ends zero xs all = tt
@@ -69,7 +70,7 @@ part-has P first parts part all =
     (cond b [] (record { first = first; tokens = part; passed = flat_map (λ p. p) parts } ∷ [])))
     [ true ↦ tt | false ↦ (all, tt) ]
 
-naming-has : (P : WideToken → Type 0) (ds : List Numbered) → All P ds
+pub naming-has : (P : WideToken → Type 0) (ds : List Numbered) → All P ds
     → AllByRecursion (λ (p : Part). All P p.tokens) (naming_parts ds)
 naming-has P ds all =
     let parts = ended_parts ds in
@@ -92,6 +93,15 @@ level-has : (P : WideToken → Type 0) (test : Placed → Bool) (ps : List Place
 level-has P test ps all =
     all-made (λ (p : Placed). P p.item) P (λ (p : Placed). p.item) (λ p has. has) (filter test ps)
     (all-filter (λ (p : Placed). P p.item) test ps all)
+
+-- what the first token of each part has, the enumerators of a level have
+pub enumerators-have : (P : WideToken → Type 0) (Q : Token → Type 0)
+    → ((xs : List Numbered) → All P xs → AllByRecursion Q (first_enumerator xs))
+    → (level : List WideToken) → AllByRecursion P level → AllByRecursion Q (enumerators level)
+enumerators-have P Q has level all =
+    all-flat (All P) Q first_enumerator has (slice_split (is_outer_byte 44) (numbered 0 level))
+    (all-split (λ (m : Numbered). P m.item) (is_outer_byte 44) (numbered 0 level)
+    (numbered-have P 0 level all))
 
 module _ (text : List ℕ) where
   -- tokens of parts that are names by their role are names
@@ -165,16 +175,6 @@ module _ (text : List ℕ) where
       → AllByRecursion (λ t. IsNameOf text t.span) (cond b (x.item.token ∷ []) []))
       [ true ↦ λ is. (all.0 (and-first _ _ is), tt) | false ↦ λ _. tt ]) refl
 
-  enumerators-named : (P : WideToken → Type 0)
-      → ((xs : List Numbered) → All P xs → AllByRecursion (λ t. IsNameOf text t.span)
-      (first_enumerator xs)) → (level : List WideToken) → AllByRecursion P level
-      → AllByRecursion (λ t. IsNameOf text t.span) (enumerators level)
-  enumerators-named P has level all =
-      all-flat (All P) (λ t. IsNameOf text t.span) first_enumerator has
-      (slice_split (is_outer_byte 44) (numbered 0 level))
-      (all-split (λ (m : Numbered). P m.item) (is_outer_byte 44) (numbered 0 level)
-      (numbered-have P 0 level all))
-
   -- ---- bodies
   abbrev pub IsBodyNamed : Body → Type 0
   IsBodyNamed b = MatchOption b.tag (Unit {0}) (λ t. IsNameOf text t.span)
@@ -229,7 +229,7 @@ module _ (text : List ℕ) where
           | true ↦ all-made (λ t. IsNameOf text t.span) (IsDefNamed text)
               (def_in kind.Enumerator (tag_of b)) (λ t named. named)
               (enumerators (level_inside b.place ps))
-              (enumerators-named _ enumerator-named (level_inside b.place ps)
+              (enumerators-have _ _ enumerator-named (level_inside b.place ps)
               (level-has _ _ ps tokens))
           | false ↦ all-flat IsPartSound (IsDefNamed text)
               (member_of (tag_around bs (b.place ∷ b.around)))

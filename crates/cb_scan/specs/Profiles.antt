@@ -2,12 +2,13 @@
 -- Macros, uses, includes, ranges and scopes have the same definitions for all rules, over the
 -- functions that these find.
 use Rattle.std.specs.Prelude.{◌≡◌, ℕ, Bool, true, false, not, filter, List, [], ◌++◌, ◌||◌, None}
+use Rattle.std.specs.List.{Contains}
 use Rattle.cb_scan.specs.declared.facts.Call.{Call}
 use Rattle.cb_scan.specs.declared.facts.Def.{Def}
-use Rattle.cb_scan.specs.declared.facts.Include.{Include}
 use Rattle.cb_scan.specs.declared.facts.Kind.{Kind}
 use Rattle.cb_scan.specs.declared.facts.Use.{Use}
 use Rattle.cb_scan.specs.declared.lex.piece.Piece.{Piece}
+use Rattle.cb_scan.specs.declared.lex.piece.Span.{Span}
 use Rattle.cb_scan.specs.declared.profile.Profile.{Profile}
 use Rattle.cb_scan.specs.declared.profile.Rules.{Rules}
 use Rattle.cb_scan.specs.declared.profile.Rules.TheVariants.{Prototypes, Standard, Wide}
@@ -19,7 +20,9 @@ use Rattle.cb_scan.specs.rules.Functions.{Function, functions}
 use Rattle.cb_scan.specs.rules.Macros.{macros}
 use Rattle.cb_scan.specs.rules.Scope.{name_around, ranges_of, scope_among}
 use Rattle.cb_scan.specs.rules.Uses.{calls_in, includes_with, macro_calls, uses_with}
-use Rattle.cb_scan.specs.rules.wide.Kinds.{functions_of, wide_found}
+use Rattle.cb_scan.specs.rules.wide.Bodies.{Body, bodies, is_enumeration}
+use Rattle.cb_scan.specs.rules.wide.Kinds.{bare_tokens, functions_of, wide_found}
+use Rattle.cb_scan.specs.rules.wide.Levels.{Placed, is_inside}
 use Rattle.cb_scan.specs.Definitions.{definitions_from}
 use Rattle.cb_scan.specs.Lines.{line_of}
 use Rattle.cb_scan.specs.Order.{call_key, def_key, in_order}
@@ -118,13 +121,6 @@ facts_in profile text = facts_by profile text (pieces text)
 
 -- ---- what holds of all texts
 
--- a use and an include without their scopes
-abbrev pub use_alone : Use → Use
-use_alone u = record u { scope = None }
-
-abbrev pub include_alone : Include → Include
-include_alone i = record i { scope = None }
-
 -- a variable, an external declaration or a prototype
 abbrev pub is_object : Kind → Bool
 is_object kind.Variable = true
@@ -132,11 +128,39 @@ is_object kind.External = true
 is_object kind.Prototype = true
 is_object _ = false
 
--- if the definition is one of these, it lies in the range of no function of the wide rules
-abbrev pub IsBesideFunctions : List ℕ → List Piece → Def → Type 0
-IsBesideFunctions text ps d =
-    is_object d.kind ≡ true
-    → name_around (ranges_of text ps (functions_of text ps)) d.name.start ≡ None
+-- a name is one of these tokens, and the `{` that are open around it are so
+abbrev pub StandsIn : List Placed → (List ℕ → Type 0) → Span → Type 0
+StandsIn ps IsSo name =
+    (p : Placed) × Contains ps p × (p.item.token.span ≡ name) × IsSo p.around
+
+-- a definition is inside the body of an enumeration, or of a structure or union: the innermost `{`
+-- around its name is that of the body
+abbrev pub IsInABody : Bool → List Placed → Def → Type 0
+IsInABody enumeration ps d =
+    (b : Body) × Contains (bodies ps) b × (is_enumeration b.kind ≡ enumeration)
+    × StandsIn ps (λ around. is_inside b.place around ≡ true) d.name
+
+-- a definition is on the level of the file: no `{` is open around its name, so it is in no body, and
+-- it is in no range of a function
+abbrev pub IsOnTheFilesLevel : List Placed → List Range → Def → Type 0
+IsOnTheFilesLevel ps ranges d =
+    StandsIn ps (λ around. around ≡ []) d.name × (name_around ranges d.name.start ≡ None)
+
+-- enumerators and members are inside bodies; variables, external declarations and prototypes are on
+-- the level of the file
+abbrev pub IsOnLevelOf : Kind → List Placed → List Range → Def → Type 0
+IsOnLevelOf kind.Enumerator ps ranges d = IsInABody true ps d
+IsOnLevelOf kind.Member ps ranges d = IsInABody false ps d
+IsOnLevelOf kind.Variable ps ranges d = IsOnTheFilesLevel ps ranges d
+IsOnLevelOf kind.External ps ranges d = IsOnTheFilesLevel ps ranges d
+IsOnLevelOf kind.Prototype ps ranges d = IsOnTheFilesLevel ps ranges d
+IsOnLevelOf _ ps ranges d = Unit {0}
+
+-- the same in a text: by the tokens of its code without attributes, and by the functions of the
+-- wide rules
+abbrev pub IsOnItsLevel : List ℕ → Def → Type 0
+IsOnItsLevel text d =
+    IsOnLevelOf d.kind (bare_tokens text (code text (pieces text))) (ranges_in Wide text) d
 
 -- a use, and a call, is on the line of its name
 abbrev pub IsUseOnItsLine : List ℕ → Use → Type 0

@@ -1,18 +1,17 @@
 //! What holds of every text, as functions that do nothing and whose contracts are the laws.
-ghost use Rattle.std.specs.Prelude.{◌≡◌, ◌↔◌, ℕ, true, List, length, map};
+ghost use Rattle.std.specs.Prelude.{◌≡◌, ◌↔◌, ℕ, true, List, length};
 ghost use Rattle.std.specs.List.{AllByRecursion};
 ghost use Rattle.cb_scan.specs.declared.facts.Def.{Def};
 ghost use Rattle.cb_scan.specs.declared.lex.piece.Piece.{Piece};
 ghost use Rattle.cb_scan.specs.declared.profile.Profile.{Profile};
-ghost use Rattle.cb_scan.specs.declared.profile.Rules.{Rules};
-ghost use Rattle.cb_scan.specs.declared.profile.Rules.TheVariants.{Prototypes, Standard};
+ghost use Rattle.cb_scan.specs.declared.source.TheConstants.{MOST_BYTES};
 ghost use Rattle.cb_scan.specs.Definitions.{IsNameOf};
 ghost use Rattle.cb_scan.specs.lex.Pieces.{IsPieces, Adjoin, LiesIn};
 ghost use Rattle.cb_scan.specs.lex.Lexeme.{IsClosedLiteral};
+ghost use Rattle.cb_scan.specs.lex.Reserved.{reserved_words};
 ghost use Rattle.cb_scan.specs.Order.{AreInOrder};
-ghost use Rattle.cb_scan.specs.Profiles.{all_facts, definitions_by, facts_by, facts_in};
-ghost use Rattle.cb_scan.specs.Profiles.{include_alone, use_alone, IsBesideFunctions};
-ghost use Rattle.cb_scan.specs.Profiles.{IsCallOnItsLine, IsUseOnItsLine};
+ghost use Rattle.cb_scan.specs.Profiles.{facts_by, facts_in};
+ghost use Rattle.cb_scan.specs.Profiles.{IsCallOnItsLine, IsOnItsLevel, IsUseOnItsLine};
 ghost use Rattle.cb_scan.specs.steps.Cut.{pieces};
 ghost use Rattle.cb_scan.specs.steps.Quote.{is_closed};
 
@@ -49,20 +48,12 @@ pub fn facts_in_order()
     ensures { (profile : Profile) (text : List ℕ) → AreInOrder (facts_in profile text) }
 {}
 
-/// All rules find the same uses and includes, their scopes aside.
-pub fn rules_agree()
-    ensures uses { (rules : Rules) (text : List ℕ)
-        → map use_alone (all_facts rules text).uses
-        ≡ map use_alone (all_facts Standard text).uses }
-    ensures includes { (rules : Rules) (text : List ℕ)
-        → map include_alone (all_facts rules text).includes
-        ≡ map include_alone (all_facts Standard text).includes }
-{}
-
-/// Variables, external declarations and prototypes lie in the range of no function.
-pub fn objects_beside_functions()
-    ensures { (text : List ℕ) → AllByRecursion (IsBesideFunctions text (pieces text))
-        (definitions_by Prototypes text (pieces text)) }
+/// Each definition that a profile finds is on its level: enumerators and members are inside the
+/// bodies of enumerations, structures and unions; variables, external declarations and prototypes
+/// are inside no braces and in no range of a function.
+pub fn definitions_on_levels()
+    ensures { (profile : Profile) (text : List ℕ)
+        → AllByRecursion (IsOnItsLevel text) (facts_in profile text).defs }
 {}
 
 /// The name of each definition that a profile finds lies in the text, and what stands there is a
@@ -78,4 +69,10 @@ pub fn facts_on_lines()
         → AllByRecursion (IsUseOnItsLine text) (facts_in profile text).uses }
     ensures calls { (profile : Profile) (text : List ℕ)
         → AllByRecursion (IsCallOnItsLine text) (facts_in profile text).calls }
+{}
+
+/// The bounds of a text by number, and how many words are reserved.
+pub fn limits_are()
+    ensures bytes { MOST_BYTES ≡ 268435456 }
+    ensures reserved { length reserved_words ≡ 50 }
 {}
