@@ -337,6 +337,41 @@ fn a_failed_flush_is_remembered(rt: HostRuntime) {
     assert_eq!(rt; sink.flush(), Err(WriteFault));
 }
 
+/// A writer that counts its flushes.
+#[derive(Drop)]
+struct Counted {
+    flushes: u32,
+}
+
+impl Write for Counted {
+    fn write(&mut self, buf: &[u8]) -> io::Result<usize> {
+        Ok(buf.len())
+    }
+
+    fn flush(&mut self) -> io::Result<()> {
+        self.flushes = self.flushes.saturating_add(1);
+        Ok(())
+    }
+}
+
+/// Writes so many times, then flushes.
+fn write_and_flush(writer: &mut Counted, writes: u32) -> Result<(), WriteFault> {
+    let mut sink = Sink::new(writer);
+    for _ in 0..writes {
+        sink.write(b"abc")?;
+    }
+    sink.flush()
+}
+
+#[test]
+fn bytes_pending_are_flushed_once(rt: HostRuntime) {
+    let mut writer = Counted { flushes: 0 };
+    for writes in 1..4u32 {
+        assert!(rt; write_and_flush(&mut writer, writes) == Ok(()));
+        assert_eq!(rt; writer.flushes, writes);
+    }
+}
+
 #[test]
 fn tag_names_in_order(rt: HostRuntime) {
     for (a_name, a_file, b_name, b_file, want) in [
