@@ -1,4 +1,5 @@
 pub mod Bytes
+pub mod CodeTokens
 pub mod Definitions
 pub mod Keys
 pub mod Lines

@@ -1,14 +1,17 @@
 //! The scanner: one pass over the pieces of a text, and then its facts in order and with their
 //! scopes.
-ghost use Rattle.std.specs.Prelude.{◌≡◌, ◌+◌, ◌^◌, ◌-◌, ◌≤◌, min, List, length, IfOk, IfErr};
+ghost use Rattle.std.specs.Prelude.{◌≡◌, ◌+◌, ◌^◌, ◌-◌, ◌<◌, ◌≤◌, min, List, length, IfOk, IfErr};
 ghost use Rattle.cb_scan.specs.declared.lex.piece.Piece.{Piece};
 ghost use Rattle.cb_scan.specs.declared.source.TheConstants.{MOST_BYTES};
+ghost use Rattle.std.specs.List.{AllByRecursion};
+ghost use Rattle.cb_scan.specs.CodeTokens.{IsTokenOf, code_by, code_of};
 ghost use Rattle.cb_scan.specs.Definitions.{AreWithin};
 ghost use Rattle.cb_scan.specs.lex.Pieces.{IsPieces};
 ghost use Rattle.cb_scan.specs.lex.Tokens.{is_significant};
 ghost use Rattle.cb_scan.specs.Profiles.{facts_by, facts_in, ranges_by, ranges_in};
 ghost use Rattle.cb_scan.specs.rules.Code.{is_newline};
 
+mod code;
 mod standard;
 mod together;
 mod wide;
@@ -18,6 +21,7 @@ use crate::lex::piece::Class;
 use crate::meter::Meter;
 use crate::profile::{Profile, Rules};
 use crate::rules::scope::Range;
+use crate::rules::wide::token::WideToken;
 use crate::source::{ScanError, Source};
 use std::alloc::{AllocError, Global};
 
@@ -105,6 +109,23 @@ pub fn function_ranges(
 {
     match ranges_in(alloc, rules, source.bytes()) {
         Ok(ranges) => Ok(ranges),
+        Err(_) => Err(ScanError::OutOfMemory),
+    }
+}
+
+/// The tokens of the code of a text, by place: those of all lines that are no directives, each with
+/// what it is for the rules. They lie in the text (`within`). Refused memory is the only error. One
+/// pass, and time in proportion to the text.
+pub fn code_tokens(alloc: Global, source: &Source) -> Result<Vec<WideToken>, ScanError>
+    ensures tokens { IfOk result (λ ts. ts.items ≡ code_of source.now) }
+    ensures exact { IfOk result
+        (λ ts. (ps : List Piece) → IsPieces source.now ps → ts.items ≡ code_by source.now ps) }
+    ensures within { IfOk result (λ ts. AllByRecursion (IsTokenOf source.now) ts.items) }
+    ensures few { IfOk result (λ ts. length ts.items < 2 ^ 32) }
+    ensures memory { IfErr result (λ e. e ≡ ScanError.OutOfMemory) }
+{
+    match code::code_in(alloc, source.bytes()) {
+        Ok(tokens) => Ok(tokens),
         Err(_) => Err(ScanError::OutOfMemory),
     }
 }

@@ -1,3 +1,4 @@
+mod code;
 mod feeds;
 mod long;
 mod names;

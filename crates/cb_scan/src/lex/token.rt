@@ -13,7 +13,7 @@ use crate::lex::piece::{Class, Piece, Span};
 /// A `Name` piece: a name, two of which mean something as the own word of a directive; or a
 /// reserved word, six of which a rule asks for.
 #[derive(Clone, Copy, Debug, PartialEq, Eq)]
-pub(crate) enum WordKind {
+pub enum WordKind {
     Name,
     Define,
     Include,
@@ -28,7 +28,7 @@ pub(crate) enum WordKind {
 
 /// What a token is for the rules: a word, a lone byte, a string, or anything else.
 #[derive(Clone, Copy, Debug, PartialEq, Eq)]
-pub(crate) enum Role {
+pub enum Role {
     Word(WordKind),
     Mark(u8),
     Str,
@@ -38,7 +38,7 @@ pub(crate) enum Role {
 /// A token: what it is, whether its line begins with it, its bytes, and its line. In this order it
 /// takes 16 bytes.
 #[derive(Clone, Copy, Debug, PartialEq, Eq)]
-pub(crate) struct Token {
+pub struct Token {
     pub role: Role,
     pub starts_line: bool,
     pub span: Span,
@@ -176,7 +176,7 @@ impl Token {
     }
 
     /// A name that is not reserved.
-    pub(crate) fn is_name(self) -> bool
+    pub fn is_name(self) -> bool
         ensures { result ≡ is_name_token self.role }
     {
         matches!(
@@ -205,7 +205,7 @@ impl Token {
     }
 
     /// The lone byte.
-    pub(crate) fn is_mark(self, byte: u8) -> bool
+    pub fn is_mark(self, byte: u8) -> bool
         ensures { result ≡ is_mark byte self.role }
     {
         match self.role {

@@ -13,6 +13,7 @@ pub(crate) mod joint;
 pub(crate) mod level;
 pub(crate) mod levels;
 pub(crate) mod machine;
+pub(crate) mod naming;
 pub(crate) mod opening;
 pub(crate) mod part;
 pub(crate) mod pass;

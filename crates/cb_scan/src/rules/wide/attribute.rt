@@ -1,7 +1,8 @@
 //! Attributes, which all other rules of the wide profile leave out.
-ghost use Rattle.std.specs.Prelude.{◌≡◌, ◌+◌, ◌<◌, ◌≤◌, ◌^◌};
+ghost use Rattle.std.specs.Prelude.{◌≡◌, ◌+◌, ◌<◌, ◌≤◌, ◌^◌, length};
+ghost use Rattle.cb_scan.specs.CodeTokens.{first_attribute};
 ghost use Rattle.cb_scan.specs.rules.wide.Attributes.{begins_attribute, begins_with_literal};
-ghost use Rattle.cb_scan.specs.rules.wide.Attributes.{ends_attribute};
+ghost use Rattle.cb_scan.specs.rules.wide.Attributes.{closing_len, ends_attribute};
 ghost use Rattle.cb_scan.specs.steps.wide.Attributes.{inside_after, leaves_out, next_attribute};
 ghost use Rattle.cb_scan.specs.steps.wide.Attributes.{open_count};
 
@@ -90,5 +91,42 @@ impl Attribute {
             (Attribute::Begun, _) => (Attribute::Inside(0), true),
             (Attribute::Inside(more), [first, ..]) => (inside_after(more, first.role), true),
         }
+    }
+}
+
+/// How many tokens there are up to and with the `)` that closes a parenthesis, or up to a `;` or a
+/// brace.
+#[tactic(auto, unfolding(crate::specs::rules::wide::Attributes::closing_len))]
+fn closing_len(tokens: &[WideToken]) -> usize
+    ensures value { result ≡ closing_len 0 tokens.now }
+    ensures within { result ≤ length tokens.now }
+{
+    let mut more: usize = 0;
+    for (i, item) in tokens.iter().enumerate() {
+        if ends_attribute(item.role) {
+            return i;
+        }
+        if item.role.is_sign(b'(') {
+            more += 1;
+        } else if item.role.is_sign(b')') {
+            if more == 0 {
+                return i + 1;
+            }
+            more -= 1;
+        }
+    }
+    tokens.len()
+}
+
+/// How many of the first tokens are of an attribute that begins with them: all up to and with its
+/// `)`, or up to a `;` or a brace. 0 where none begins.
+pub fn attribute_len(tokens: &[WideToken]) -> usize
+    ensures value { result ≡ first_attribute tokens.now }
+    ensures within { result ≤ length tokens.now }
+{
+    if begins_attribute(tokens) {
+        2 + closing_len(&tokens[2..])
+    } else {
+        0
     }
 }

@@ -13,7 +13,7 @@ use crate::lex::token::{Role, Token, WordKind};
 
 /// What a token is for the rules of the wide profile.
 #[derive(Clone, Copy)]
-pub(crate) enum WideRole {
+pub enum WideRole {
     /// A name that does not begin with two underscores.
     Name,
     /// A name that begins with two underscores.
@@ -165,7 +165,7 @@ pub(crate) fn wide_role(text: &[u8], token: &Token) -> WideRole
 
 impl WideRole {
     /// The lone byte.
-    pub(crate) fn is_sign(self, byte: u8) -> bool
+    pub fn is_sign(self, byte: u8) -> bool
         ensures { result ≡ is_sign byte self }
     {
         match self {
@@ -175,14 +175,14 @@ impl WideRole {
     }
 
     /// A name, which is not reserved.
-    pub(crate) fn is_name(self) -> bool
+    pub fn is_name(self) -> bool
         ensures { result ≡ is_wide_name self }
     {
         matches!(self, WideRole::Name | WideRole::Underscored)
     }
 
     /// A word, reserved or not.
-    pub(crate) fn is_word(self) -> bool
+    pub fn is_word(self) -> bool
         ensures { result ≡ is_wide_word self }
     {
         !matches!(
@@ -192,49 +192,49 @@ impl WideRole {
     }
 
     /// A number or a string.
-    pub(crate) fn is_literal(self) -> bool
+    pub fn is_literal(self) -> bool
         ensures { result ≡ is_literal self }
     {
         matches!(self, WideRole::Number | WideRole::Str)
     }
 
     /// A word that begins an attribute whatever follows its `(`.
-    pub(crate) fn begins_attribute(self) -> bool
+    pub fn begins_attribute(self) -> bool
         ensures { result ≡ is_attribute_word self }
     {
         matches!(self, WideRole::Attribute)
     }
 
     /// `struct`, `union` or `enum`.
-    pub(crate) fn is_keyword(self) -> bool
+    pub fn is_keyword(self) -> bool
         ensures { result ≡ is_keyword self }
     {
         matches!(self, WideRole::Struct | WideRole::Union | WideRole::Enum)
     }
 
     /// A name that begins with two underscores.
-    pub(crate) fn is_underscored(self) -> bool
+    pub fn is_underscored(self) -> bool
         ensures { result ≡ is_underscored self }
     {
         matches!(self, WideRole::Underscored)
     }
 
     /// A string.
-    pub(crate) fn is_text(self) -> bool
+    pub fn is_text(self) -> bool
         ensures { result ≡ is_text self }
     {
         matches!(self, WideRole::Str)
     }
 
     /// A word of a statement.
-    pub(crate) fn is_statement_word(self) -> bool
+    pub fn is_statement_word(self) -> bool
         ensures { result ≡ is_statement_word self }
     {
         matches!(self, WideRole::Statement)
     }
 
     /// A specifier, which says nothing of the type.
-    pub(crate) fn is_specifier(self) -> bool
+    pub fn is_specifier(self) -> bool
         ensures { result ≡ is_specifier self }
     {
         matches!(

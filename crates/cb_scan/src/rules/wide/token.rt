@@ -8,7 +8,7 @@ use crate::rules::wide::role::WideRole;
 
 /// A token of the code: what it is for the wide profile, and whether it is a `{` that counts.
 #[derive(Clone, Copy)]
-pub(crate) struct WideToken {
+pub struct WideToken {
     pub token: Token,
     pub role: WideRole,
     pub counted: bool,
