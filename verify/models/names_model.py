@@ -247,6 +247,22 @@ class Text:
     def places(self):
         return [token.place for token in self.tokens]
 
+    @functools.cached_property
+    def named(self):
+        """The names by their bytes, each list by place."""
+        found: dict = {}
+        for token in self.tokens:
+            found.setdefault(token.text, []).append(token)
+        return found
+
+    def is_list(self, thing):
+        """Whether the scope of a thing is a list of parameters that is not of a function."""
+        return thing.kind == "local" and thing.start in self.starts_of_lists
+
+    @functools.cached_property
+    def starts_of_lists(self):
+        return {self.code.tokens[one.first].place for one in self.scopes if one.kind == "list"}
+
     def token_at(self, place):
         """The name that holds a place or ends at it, or none."""
         number = bisect.bisect_right(self.places, place) - 1
@@ -298,6 +314,7 @@ class Text:
         bare = Bare(self.split)
         self.bodies, self.tags, self.before_tags = set(), set(), set()
         self.enumerators, self.members, self.parts_of_file = [], set(), []
+        self.given = set()  # the names of parts with a value
         for number, brace in bare.braces.items():
             if brace.word:
                 self.bodies.add(self.index[bare.tokens[number].place])
@@ -315,9 +332,11 @@ class Text:
             for declaration in wide_model.declarations(level):
                 for part in naming_parts(declaration):
                     self.parts_of_file.append(part)
-                    name = name_of(part) if level.brace else None
-                    if name and b"typedef" not in part.words:
+                    name = name_of(part)
+                    if name and level.brace and b"typedef" not in part.words:
                         self.members.add(name.token.place)
+                    if name and part.has_value:
+                        self.given.add(name.token.place)
 
     def find_in_body(self):
         """Of each token whether it stands in the body of a function."""
@@ -836,14 +855,15 @@ class Text:
 
     # ---- letters of uses
 
-    def letter(self, place):
-        """How a name is used: `r` read, `w` written, `a` its address taken, `t` a text."""
+    def letter(self, place, is_definition=False):
+        """How a name is used: `r` read, `w` written, `a` its address taken, `t` a text. Whether it
+        is a definition is known of what is bound; of a name of the file it has to be said."""
         stream, index = self.stream_at(place)
         thing = self.bound[place]
         if thing.kind == "label":
             return "t"
         end = stream.behind_indexes(index + 1)
-        if self.declares(stream, index):
+        if is_definition or self.declares(stream, index):
             return "w" if self.is_given(stream, index, end) else "t"
         start = self.start_of_chain(stream, index)
         befores = {index - 1, start - 1}
@@ -873,18 +893,20 @@ class Text:
         return [line.tokens[0].place for line, _ in self.directives]
 
     def declares(self, stream, index):
-        """Whether a use is a declaration of its thing."""
+        """Whether a use is a declaration of what it is bound to."""
         token = stream.tokens[index]
         if stream is self.code:
             return token.place in self.definitions.get(self.bound[token.place], [])
-        _, names, last = self.parameters_of[stream.tokens[0].place]
+        _, names, last = self.parameters_of.get(stream.tokens[0].place, (None, {}, 0))
         return token.text in names and token.place < last
 
     def is_given(self, stream, index, end):
         """Whether a declaration has a value."""
-        if stream is not self.code:
-            return False
-        return self.declared[index].has_value or self.is_assigned(stream, end)
+        token = stream.tokens[index]
+        has_value = stream is self.code and (
+            token.place in self.given or (index in self.declared and self.declared[index].has_value)
+        )
+        return has_value or (stream is self.code and self.is_assigned(stream, end))
 
     def start_of_chain(self, stream, index):
         """The first token of the chain of names, pairs and accessors that ends with a use."""
