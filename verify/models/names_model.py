@@ -636,9 +636,11 @@ class Text:
             self.declared.setdefault(self.index[token.place], Declared(where, space, has_value))
 
     def declare_in_blocks(self):
-        """Declares enumerators, and tags of bodies, in the blocks around them."""
+        """Declares the enumerators and the tags of bodies that stand in a block: the tags in a
+        block, the enumerators in the innermost scope, as other names."""
         for token in self.enumerators:
-            self.declare(token, "block")
+            if self.in_body[self.index[token.place]]:
+                self.declare(token, "innermost")
         for place in self.tags:
             self.declare(self.code.tokens[self.index[place]], "block", "tag")
 
@@ -706,28 +708,19 @@ class Text:
             self.declare_list(opened, "function")
         if not function.is_old or not lists:
             return
-        declared, start = set(), self.code.pair[lists[0]] + 1
+        for start, end in self.parts_of_list(lists[0]):
+            items = self.items(start, end)
+            if len(items) == 1 and items[0].is_name:
+                self.declare(items[0].token, "function")
+        start = self.code.pair[lists[0]] + 1
         for index in range(start, function.brace):
             if self.code.text(index) == b";":
                 for part in self.parts_between(start, index):
                     name = self.name_of_parameter(part)
                     if name:
-                        declared.add(name.text)
                         self.declare(name.token, "function", has_value=part.has_value)
                     self.declare_lists(part)
                 start = index + 1
-        for start, end in self.parts_of_list(lists[0]):
-            items = self.items(start, end)
-            if (
-                len(items) == 1
-                and items[0].is_name
-                and self.is_declared_by_list(items[0], declared)
-            ):
-                self.declare(items[0].token, "function")
-
-    def is_declared_by_list(self, item, declared):
-        """Whether a name alone in an old list declares a parameter."""
-        return item.text not in declared
 
     def declare_list(self, opened, where):
         for start, end in self.parts_of_list(opened):
