@@ -137,7 +137,8 @@ class DrawNames:
         return self.one(
             "typedef int T;", "int a, *b = &a;", "struct s { int a, b; } x;", "enum { a, b };",
             "typedef struct a { T b; } x;", 'extern "C" {', "}", "#include \"a.h\"", "#if a",
-            "#else", "#endif", "#undef a", "struct s x = { .a = { .b = 1 }, b };", "static int out;",
+            "#else", "#endif", "#undef a", "struct s x = { .a = { .b = 1 }, b };",
+            "static int out;",
             "LIST_HEAD(a, b)", "T a[] = { f(a), { .x = b } };", "#ifdef a\nint b;\n#endif", "",
         )  # fmt: skip
 
@@ -172,9 +173,11 @@ class DrawNames:
     def declarator(self):
         name = self.name()
         made = self.one(
-            name, name, name, f"*{name}", f"{name}[{self.value()}]", f"(*{name})({self.parameters()})",
+            name, name, name, f"*{name}", f"{name}[{self.value()}]",
+            f"(*{name})({self.parameters()})",
             f"(*{name}[2])(int b)", f"{name}({self.parameters()})", f"{name} __attribute__((x))",
-            f"{name} __aligned(8)", f"(*{self.name()}(int b))(T c)", f"({name})(int a)", f"{name} __b",
+            f"{name} __aligned(8)", f"(*{self.name()}(int b))(T c)", f"({name})(int a)",
+            f"{name} __b",
         )  # fmt: skip
         return made + self.one("", "", f" = {self.value()}", f" = {self.initializer()}")
 
@@ -222,7 +225,8 @@ class DrawNames:
 
     def plain(self):
         return self.one(
-            f"goto {self.name()};", f"return {self.value()};", ";", "break;", f"asm(\"x\" : {self.name()});",
+            f"goto {self.name()};", f"return {self.value()};", ";", "break;",
+            f"asm(\"x\" : {self.name()});",
             f"struct {self.name()} {{ int a; enum {{ x, b }} c; }};", f"f({self.value()}) T b = 1;",
             f"FOO(a) {self.name()} = 1;", f"int (*{self.name()})(int a, T (*b)(int c));",
             f"extern int {self.name()}, b;", f"void *{self.name()} = &&out;",
@@ -251,11 +255,13 @@ class DrawNames:
             lambda: f"{name}", lambda: "1", lambda: f"{name} = {value()}",
             lambda: f"{name} {self.one('+=', '<<=', '==', '<=', '&', '*', '|=', '- -')} {value()}",
             lambda: f"{self.one('++', '--', '*', '&', '!', '*++', '&*', '-', '& &')}{name}",
-            lambda: f"{name}{self.one('++', '--', '[1]', '.a', '->b', '->a[1].b', '[a]++', '.b = 1')}",
+            lambda: f"{name}{self.one('++', '--', '[1]', '.a', '->b', '->a[1].b')}",
+            lambda: f"{name}{self.one('[a]++', '.b = 1', '[b] = 1', ' -- ')}",
             lambda: f"{self.one('f', 'F', 'g', 'a', 'offsetof', 'S')}({value()}, {value()})",
             lambda: f"({self.one('T', 'struct s', 'int *')}){value()}",
             lambda: f"(struct s)" + self.initializer(), lambda: f"&(T[]){self.initializer()}",
-            lambda: f"{value()} ? {value()} : {value()}", lambda: f"({{ {self.statements(1, 3)} }})",
+            lambda: f"{value()} ? {value()} : {value()}",
+            lambda: f"({{ {self.statements(1, 3)} }})",
             lambda: f"sizeof({value()})", lambda: f"({value()})", lambda: f"(*{name})(b)",
             lambda: f"f(1, {value()})", lambda: f"{value()} && {value()}", lambda: f"*{name}->b++",
             lambda: f"++{name}.a", lambda: f"&{name}->b", lambda: f"f(\"s\", (T){{ a }}, {name})",

@@ -2,7 +2,7 @@
 """Tries the law of renaming on the models of names, over real texts and random ones.
 
     verify/models/random-renames.py --sources FOLDER
-    verify/models/random-renames.py --first 4711 --texts 1 --drawn     one that is drawn, by its seed
+    verify/models/random-renames.py --first 4711 --texts 1 --drawn     one that is drawn
 
 Text number n has the seed n. It is one of the C files below FOLDER, as it stands or with up to nine
 random edits (brackets, `;`, `for (`, `goto`, `#if`, names), or it is drawn as a whole. In each some
