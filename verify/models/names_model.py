@@ -705,7 +705,8 @@ class Text:
         """Declares the parameters of a function in its scope."""
         lists = self.lists_of_function(function)
         for opened in lists:
-            self.declare_list(opened, "function")
+            for part in self.declare_list(opened, "function"):
+                self.declare_lists(part)
         if not function.is_old or not lists:
             return
         for start, end in self.parts_of_list(lists[0]):
@@ -723,21 +724,27 @@ class Text:
                 start = index + 1
 
     def declare_list(self, opened, where):
+        """Declares the names of a list; its parts, which can hold other lists."""
+        parts = []
         for start, end in self.parts_of_list(opened):
             for part in itertools.islice(self.parts_between(start, end), 1):
                 name = self.name_of_parameter(part)
                 if name:
                     self.declare(name.token, where, has_value=part.has_value)
-                self.declare_lists(part)
+                parts.append(part)
+        return parts
 
     def declare_lists(self, part):
-        """Declares what the lists of parameters in a part of a declaration declare."""
-        for opened in self.lists_of_part(part):
-            last = self.code.pair[opened]
-            if opened not in self.lists and last >= 0:
-                self.lists.add(opened)
-                self.scopes.append(Scope("list", opened, last))
-                self.declare_list(opened, "innermost")
+        """Declares what the lists of parameters in a part of a declaration declare, and the lists
+        in these."""
+        waiting = [part]
+        while waiting:
+            for opened in self.lists_of_part(waiting.pop()):
+                last = self.code.pair[opened]
+                if opened not in self.lists and last >= 0:
+                    self.lists.add(opened)
+                    self.scopes.append(Scope("list", opened, last))
+                    waiting += self.declare_list(opened, "innermost")
 
     def lists_of_part(self, part):
         """The parentheses that directly follow the name of a part, or the `)` of its pointer."""
@@ -873,17 +880,18 @@ class Text:
         return "r"
 
     def stream_at(self, place):
+        """The tokens among which the token at a place stands, and its index."""
         if place in self.index:
             return self.code, self.index[place]
-        number = bisect.bisect_right(self.starts_of_directives, place) - 1
-        stream = self.directives[number][1]
-        return stream, next(
-            index for index, token in enumerate(stream.tokens) if token.place == place
-        )
+        return self.index_of_directives[place]
 
     @functools.cached_property
-    def starts_of_directives(self):
-        return [line.tokens[0].place for line, _ in self.directives]
+    def index_of_directives(self):
+        return {
+            token.place: (stream, index)
+            for _, stream in self.directives
+            for index, token in enumerate(stream.tokens)
+        }
 
     def declares(self, stream, index):
         """Whether a use is a declaration of what it is bound to."""
