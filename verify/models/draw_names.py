@@ -51,6 +51,17 @@ class DrawNames:
                 text = self.edited(text)
         return (text + self.one("", "\n")).encode()
 
+    def files(self) -> dict:
+        """One to three files by name: a source, often a header and another source beside it."""
+        files = {b"a.c": self.text()}
+        if self.chance(0.4):
+            lines = [self.one(self.macro, self.prototype, self.other)() for _ in range(3)]
+            name = self.one(b"a.h", b"b.h", b"x/b.h")
+            files[name] = ("\n".join(lines) + "\n").encode()
+        if self.chance(0.3):
+            files[self.one(b"b.c", b"x/a.c")] = self.text()
+        return files
+
     def edited(self, text):
         """A text with one edit: something is put in, taken away, or stands twice."""
         place = self.random.randint(0, len(text))

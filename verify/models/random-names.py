@@ -57,18 +57,6 @@ class Session(NamedTuple):
     messages: list
 
 
-def drawn_files(draw, seed):
-    """The files of a session, by name."""
-    names = DrawNames(seed)
-    files = {b"a.c": names.text()}
-    if draw.random() < 0.4:
-        lines = [draw.choice([names.macro, names.prototype, names.other])() for _ in range(3)]
-        files[draw.choice([b"a.h", b"b.h", b"x/b.h"])] = ("\n".join(lines) + "\n").encode()
-    if draw.random() < 0.3:
-        files[draw.choice([b"b.c", b"x/a.c"])] = names.text()
-    return files
-
-
 def message(method, params, number=None):
     body = {"method": method, "params": params}
     if number is not None:
@@ -83,7 +71,7 @@ def uri_of(file):
 def drawn(seed, with_free=False):
     """The session of a seed."""
     draw = random.Random(f"asked {seed}")
-    files = drawn_files(draw, seed)
+    files = DrawNames(seed).files()
     is_utf16 = draw.random() < 0.5
     capabilities = {"workspace": {"didChangeWatchedFiles": {"dynamicRegistration": True}}}
     if not is_utf16:

@@ -134,7 +134,15 @@ class Tree:
         return found
 
     def of_kinds(self, name, kinds):
-        return [one for one in self.defined.get(name, []) if one.kind in kinds]
+        """The definitions of a name of these kinds; what a block declares is none of the file."""
+        return [
+            one
+            for one in self.defined.get(name, [])
+            if one.kind in kinds and not self.is_of_block(one)
+        ]
+
+    def is_of_block(self, one):
+        return one.kind in b"esug" and self.text(one.file).bound[one.place].kind == "local"
 
     def is_private(self, one):
         return one.file.endswith(b".c") and (one.kind in PRIVATE_KINDS or one.is_local)
@@ -259,9 +267,13 @@ class Tree:
                 for one in sorted(self.files)
                 if owner in self.closure(one) or one in self.closure(owner)
             ]
-        kinds = b"d" if thing.space == "macro" else KINDS_OF_SPACE[thing.space]
-        private = {one.file for one in self.of_kinds(thing.name, kinds) if self.is_private(one)}
+        private = self.private_in(thing)
         return [one for one in sorted(self.files) if one not in private]
+
+    def private_in(self, thing):
+        """The files that have a private definition of the name in its space."""
+        kinds = b"d" if thing.space == "macro" else KINDS_OF_SPACE[thing.space]
+        return {one.file for one in self.of_kinds(thing.name, kinds) if self.is_private(one)}
 
     def free_in(self, file, thing):
         """The places of a file that a name of the file has: free ones of its space, and those of
@@ -496,14 +508,12 @@ class Tree:
                     raise Refusal(b"used from outside: " + name)
             return
         owner = self.owner(thing)
-        for one in self.reach(thing):
-            if owner is not None and one != owner and self.free_in(one, thing):
+        if owner is None:
+            for one in sorted(self.private_in(thing)):
                 raise Refusal(b"used from outside: " + one)
-            if owner is None and any(
-                self.is_private(it) and it.file != one
-                for use in self.free_in(one, thing)
-                for it in self.meaning(one, use)
-            ):
+            return
+        for one in self.reach(thing):
+            if one != owner and self.free_in(one, thing):
                 raise Refusal(b"used from outside: " + one)
 
     def refuse_odd(self, file, uses, name):
