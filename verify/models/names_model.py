@@ -747,24 +747,31 @@ class Text:
                     waiting += self.declare_list(opened, "innermost")
 
     def lists_of_part(self, part):
-        """The parentheses that directly follow the name of a part, or the `)` of its pointer."""
+        """The parentheses that directly follow the name of a part, or the `)` of its pointer, and
+        end in the part."""
         items = part.items
-        if not any(item.text == b"(" for item in items):
-            return
         number = {item.token.place: number for number, item in enumerate(items)}
+
+        def closed(at):
+            """The number of the `)` of the `(` at a number, or none."""
+            if text_at(part, at) != b"(":
+                return None
+            last = self.code.pair[self.index[items[at].token.place]]
+            return number.get(self.code.tokens[last].place) if last >= 0 else None
+
+        begins = []
         for name in (prototype_of(part), name_of(part)):
             if name:
                 at = number[name.token.place] + 1
-                at += text_at(part, at) == b")"
-                if text_at(part, at) == b"(":
-                    yield self.index[items[at].token.place]
+                begins.append(at + (text_at(part, at) == b")"))
         for at, item in enumerate(items):
             if item.is_outer and item.text == b"(" and text_at(part, at + 1) == b"*":
-                last = self.code.pair[self.index[item.token.place]]
-                after = number.get(self.code.tokens[last].place) if last >= 0 else None
-                if after is not None and text_at(part, after + 1) == b"(":
-                    yield self.index[items[after + 1].token.place]
+                last = closed(at)
+                begins += [last + 1] if last is not None else []
                 break
+        for at in begins:
+            if closed(at) is not None:
+                yield self.index[items[at].token.place]
 
     # ---- binding
 
