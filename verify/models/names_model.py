@@ -905,8 +905,9 @@ class Text:
         token = stream.tokens[index]
         if stream is self.code:
             return token.place in self.definitions.get(self.bound[token.place], [])
-        _, names, last = self.parameters_of.get(stream.tokens[0].place, (None, {}, 0))
-        return token.text in names and token.place < last
+        if self.bound[token.place].kind != "parameter":
+            return False
+        return token.place < self.parameters_of[stream.tokens[0].place][2]
 
     def is_given(self, stream, index, end):
         """Whether a declaration has a value."""

@@ -170,12 +170,6 @@ class MacroTextBound(Text):
                     self.bound[token.place] = thing
                     self.used[thing] = sorted([*self.used[thing], token.place])
 
-    def declares(self, stream, index):
-        place = stream.tokens[index].place
-        if stream is self.code or self.bound[place].kind == "parameter":
-            return super().declares(stream, index)
-        return False
-
 
 class ExternInBlock(Text):
     """`extern int x;` in a block declares a local."""
