@@ -1,0 +1,382 @@
+"""Wrong rules that a tired programmer could write, each in place of one of `names_model.py`.
+
+`random-names.py --self-test` has to find each.
+"""
+
+from __future__ import annotations
+
+from names_model import PARTNER, Scope, Text, Thing
+from reach_model import Tree
+from wide_model import name_of
+
+
+class DotOfThree(Text):
+    """A `.` of `...` is taken for an accessor."""
+
+    def is_member(self, stream, index):
+        return stream.is_arrow(index - 2) or stream.text(index - 1) == b"."
+
+
+class MemberAsLocal(Text):
+    """A member of a structure in a block is taken for a local."""
+
+    def declare_in_blocks(self):
+        super().declare_in_blocks()
+        for part in self.parts_of_file:
+            name = name_of(part)
+            index = self.index[name.token.place] if name else 0
+            if name and name.token.place in self.members and self.in_body[index]:
+                self.spaces[name.token.place] = "ordinary"
+                self.declare(name.token, "innermost")
+
+
+class ValueAsBlock(Text):
+    """A value is taken for a block."""
+
+    def kind_of_brace(self, index):
+        return "body" if index in self.bodies else "block"
+
+
+class BlockAsValue(Text):
+    """A statement expression is taken for a value."""
+
+    def kind_of_brace(self, index):
+        before = self.code.text(self.code.before(index))
+        return "value" if before == b"(" else super().kind_of_brace(index)
+
+
+class ForWithoutEnd(Text):
+    """The local of a `for` is seen up to the end of the block."""
+
+    def end_of_for(self, function, index, opened):
+        around = self.code.around[index]
+        return min(self.code.until.get(around, self.code.size), function.last)
+
+
+class ForWithoutElse(Text):
+    """The local of a `for` is not seen behind `else`."""
+
+    def end_of_for(self, function, index, opened):
+        code, last = self.code, super().end_of_for(function, index, opened)
+        place = max(code.pair[opened], opened)
+        while place < last:
+            place += 1
+            follows = code.text(code.following(place)) == b"else"
+            if code.text(place) in (b"}", b";") and follows:
+                return place
+        return last
+
+
+class BeforeDeclaration(Text):
+    """A local is seen before its declaration."""
+
+    def bind_code(self):
+        moved = {}
+        for index, one in self.declared.items():
+            moved.setdefault((self.code.text(index), one), index)
+        self.early = {}
+        super().bind_code()
+        tokens = self.code.tokens
+        for token in tokens:
+            free = token.is_name and token.place not in self.bound
+            if free and self.spaces[token.place] == "ordinary":
+                later = [
+                    thing
+                    for thing in self.definitions
+                    if thing.name == token.text
+                    and thing.space == "ordinary"
+                    and thing.start <= token.place < thing.end
+                ]
+                if later:
+                    thing = max(later, key=lambda one: one.start)
+                    self.bound[token.place] = thing
+                    self.used[thing].append(token.place)
+                    self.used[thing].sort()
+
+    def definition(self, place):
+        thing = self.bound[place]
+        places = self.definitions.get(thing, [])
+        if thing.kind == "local" and places and places[0] > place:
+            return places[0]
+        return super().definition(place)
+
+
+class PrototypeHides(Text):
+    """The parameters of a prototype are declared in the scope around it."""
+
+    def declare_lists(self, part):
+        before = len(self.scopes)
+        super().declare_lists(part)
+        del self.scopes[before:]
+
+
+class AllOfFunction(Text):
+    """The local of an inner block has the uses of the outer one, too."""
+
+    def uses(self, thing):
+        if thing.kind != "local":
+            return super().uses(thing)
+        places = {
+            place
+            for one, used in self.used.items()
+            if one.kind == "local" and one.name == thing.name and one.space == thing.space
+            for place in used
+            if self.same_function(place, thing.start)
+        }
+        return [(place, self.letter(place)) for place in sorted(places)]
+
+    def same_function(self, one, other):
+        return any(
+            self.code.tokens[it.start].place <= min(one, other)
+            and max(one, other) < self.code.tokens[it.last].end
+            for it in self.functions
+        )
+
+
+class LabelAsVariable(AllOfFunction):
+    """A label has the uses of the variables of its name."""
+
+    def uses(self, thing):
+        if thing.kind != "label":
+            return Text.uses(self, thing)
+        places = {
+            token.place
+            for token in self.named[thing.name]
+            if thing.start <= token.place < thing.end
+            and self.spaces[token.place] in ("label", "ordinary")
+        }
+        return [(place, self.letter(place)) for place in sorted(places)]
+
+
+class MacroTextBound(Text):
+    """A name in the text of a macro is bound to the local around it."""
+
+    def bind_code(self):
+        super().bind_code()
+        for line, _ in self.directives:
+            for token in line.tokens:
+                if self.spaces.get(token.place) != "ordinary":
+                    continue
+                around = [
+                    thing
+                    for thing, places in self.definitions.items()
+                    if thing.name == token.text
+                    and thing.space == "ordinary"
+                    and thing.start <= token.place < thing.end
+                    and places[0] <= token.place
+                ]
+                if around:
+                    thing = max(around, key=lambda one: one.start)
+                    self.bound[token.place] = thing
+                    self.used[thing] = sorted([*self.used[thing], token.place])
+
+
+class ExternInBlock(Text):
+    """`extern int x;` in a block declares a local."""
+
+    def is_of_block(self, part, is_extern):
+        return super().is_of_block(part, False)
+
+
+class PrototypeInBlock(Text):
+    """A prototype in a block declares a local."""
+
+    def is_of_block(self, part, is_extern):
+        return not is_extern
+
+    def declare_statement(self, begin):
+        super().declare_statement(begin)
+        if self.is_declaration(begin):
+            import wide_model
+
+            for part in self.parts_between(begin, self.end_of_declaration(begin)):
+                name = wide_model.prototype_of(part)
+                if name:
+                    self.declare(name.token, "innermost")
+
+
+class CallDeclares(Text):
+    """A macro's name with a group before one name is taken for a declaration."""
+
+    def is_declared_behind(self, index):
+        return super().is_declared_behind(index) or self.is_sequence(index, lambda *_: True)
+
+
+class ProductUses(Text):
+    """A product is no declaration."""
+
+    def is_declaration(self, begin):
+        is_product = self.code.text(self.code.following(begin)) == b"*"
+        return super().is_declaration(begin) and not (self.code.is_name(begin) and is_product)
+
+
+class ConditionalLabel(Text):
+    """A name and a `:` are a label wherever they stand."""
+
+    def walk(self, function):
+        super().walk(function)
+        for index in range(function.brace, function.last):
+            if self.kinds.get(self.code.around[index]) == "block" and self.is_label(index):
+                self.labels.add(index)
+
+
+class CaseEndsEarly(Text):
+    """A `case` ends with its first `:`, also where a `?` is open."""
+
+    def ends_statement(self, index, cases):
+        if self.code.text(index) == b"?":
+            return False
+        return super().ends_statement(index, cases)
+
+
+class LoopDeclares(Text):
+    """What a `for` declares is declared in the block around."""
+
+    def walk(self, function):
+        super().walk(function)
+        self.scopes = [one for one in self.scopes if one.kind != "for"]
+
+
+class TypeofNames(Text):
+    """The group of a `typeof` can hold the name of a declarator."""
+
+    def items(self, start, end):
+        import names_model
+
+        kept, names_model.TYPEOF = names_model.TYPEOF, frozenset()
+        try:
+            return super().items(start, end)
+        finally:
+            names_model.TYPEOF = kept
+
+
+class OldListAlone(Text):
+    """A parameter in the old style is declared by its declaration alone."""
+
+    def declare_parameters(self, function):
+        if not function.is_old:
+            super().declare_parameters(function)
+            return
+        before = set(self.declared)
+        super().declare_parameters(function)
+        lists = self.lists_of_function(function)
+        if lists:
+            last = self.code.pair[lists[0]]
+            for index in set(self.declared) - before:
+                if lists[0] < index < last:
+                    del self.declared[index]
+
+
+class OuterDefinition(Text):
+    """The definition of a local is its first declaration, wherever it is asked."""
+
+    def definition(self, place):
+        thing = self.bound[place]
+        places = self.definitions.get(thing, [])
+        return places[0] if places else None
+
+
+class EnumeratorsOfFile(Text):
+    """The enumerators of a block are those of the file."""
+
+    def declare_in_blocks(self):
+        self.enumerators = []
+        super().declare_in_blocks()
+
+
+class TagsOfFile(Text):
+    """The tags of a block are those of the file."""
+
+    def declare_in_blocks(self):
+        kept, self.tags = self.tags, set()
+        super().declare_in_blocks()
+        self.tags = kept
+
+
+class ComparedIsWritten(Text):
+    """`==` is taken for an assignment."""
+
+    def is_assigned(self, stream, index):
+        return stream.text(index) == b"=" or super().is_assigned(stream, index)
+
+
+class AndIsAddress(Text):
+    """The `&` of `a & b` takes an address."""
+
+    def is_address(self, stream, index):
+        return stream.text(index) == b"&"
+
+
+class PointedIsWritten(Text):
+    """A write to what a pointer points to writes the pointer."""
+
+    def letter(self, place, is_definition=False):
+        stream, index = self.stream_at(place)
+        end = stream.behind_indexes(index + 1)
+        letter = super().letter(place, is_definition)
+        return "w" if letter == "r" and self.is_assigned(stream, end) else letter
+
+
+class MemberIsWritten(Text):
+    """A write to a member writes its structure."""
+
+    def letter(self, place, is_definition=False):
+        stream, index = self.stream_at(place)
+        letter = super().letter(place, is_definition)
+        end = stream.behind_indexes(index + 1)
+        if letter == "r" and stream.is_dot(end) and self.is_assigned(stream, end + 2):
+            return "w"
+        return letter
+
+
+class BracketsByDepth(Text):
+    """A `}` in the first column closes the nearest brace alone."""
+
+    def __init__(self, text):
+        super().__init__(text.replace(b"\n}", b"\r}"))
+
+
+class MacroReachesNothing(Tree):
+    """A rename into a name that a macro of the function reaches is accepted."""
+
+    def refuse_macros(self, file, thing, new):
+        pass
+
+
+class StrangeIsPlain(Tree):
+    """An argument that a macro makes a text is renamed."""
+
+    def refuse_arguments(self, thing, places):
+        pass
+
+
+class UsedInBlock(Tree):
+    """The new name is looked for in the scope of the local alone."""
+
+    def range_of(self, text, thing):
+        return thing.start, thing.end
+
+
+class IncludedIsLost(Tree):
+    """A text that is included in the function is forgotten."""
+
+    def refuse_outside(self, file, thing):
+        if not isinstance(thing, Thing):
+            super().refuse_outside(file, thing)
+
+
+class PrivateFirst(Tree):
+    """Private definitions of other files come first."""
+
+    def is_in_view(self, file, one):
+        return self.is_private(one)
+
+
+PLANTS = [
+    DotOfThree, MemberAsLocal, ValueAsBlock, BlockAsValue, ForWithoutEnd, ForWithoutElse,
+    BeforeDeclaration, PrototypeHides, AllOfFunction, LabelAsVariable, MacroTextBound,
+    ExternInBlock, PrototypeInBlock, CallDeclares, ProductUses, ConditionalLabel, CaseEndsEarly,
+    LoopDeclares, TypeofNames, OldListAlone, OuterDefinition, EnumeratorsOfFile, TagsOfFile,
+    ComparedIsWritten, AndIsAddress, PointedIsWritten, MemberIsWritten, BracketsByDepth,
+    MacroReachesNothing, StrangeIsPlain, UsedInBlock, IncludedIsLost, PrivateFirst,
+]  # fmt: skip

@@ -1,0 +1,166 @@
+#!/usr/bin/env python3
+"""Tries the law of renaming on the models of names, over real texts and random ones.
+
+    verify/models/random-renames.py --sources FOLDER
+    verify/models/random-renames.py --first 4711 --texts 1 --drawn     one that is drawn
+
+Text number n has the seed n. It is one of the C files below FOLDER, as it stands or with up to nine
+random edits (brackets, `;`, `for (`, `goto`, `#if`, names), or it is drawn as a whole. In each some
+locals, labels and parameters of macros get another name: one that is new, or one of the text. Each
+rename that is accepted is made. Then the new text has to have the same pieces but for the names of
+those that were edited; and each name has to have its space and its letter as before, and be bound
+to what it was bound to, with the places moved.
+
+At the first wrong rename the seed and the texts are shown and the exit status is 1. Else lines tell
+how many renames were accepted, and how often each reason refused one.
+"""
+
+from __future__ import annotations
+
+import argparse
+import bisect
+import collections
+import pathlib
+import random
+import sys
+
+from draw_names import EDITS, DrawNames
+from names_model import Text
+from reach_model import Refusal, Tree, renamed
+from text_model import PIECE
+
+HERE = pathlib.Path(__file__).resolve().parent
+sys.path.insert(0, str(HERE.parent))
+from shared import c_files  # noqa: E402
+
+FILE = b"a.c"
+LARGEST = 60_000  # bytes of a real text
+
+
+def pieces(text):
+    return [found[0] for found in PIECE.finditer(text)]
+
+
+class Difference(Exception):
+    """A rename that changed what a name means."""
+
+
+def described(text, moved):
+    """What each name of a text is, with places moved: name, space, binding, definition, letter."""
+    told = []
+    for token in text.tokens:
+        thing, found = text.binding(token.place), text.definition(token.place)
+        bounds = thing.start, thing.end
+        told.append(
+            (
+                moved(token.place),
+                text.space(token.place),
+                thing.kind,
+                tuple(moved(one) if one >= 0 else one for one in bounds),
+                None if found is None else moved(found),
+                text.letter(token.place),
+            )
+        )
+    return told
+
+
+def check(old, places, name, new, read=Text):
+    """Compares a text with the one that a rename makes of it."""
+    made = renamed(old.text, places, name, new)
+    places, more = sorted(places), len(new) - len(name)
+
+    def moved(place):
+        return place + more * bisect.bisect_left(places, place)
+
+    before, after = pieces(old.text), pieces(made)
+    at, edited, expected = 0, set(places), []
+    for piece in before:
+        expected.append(new if at in edited else piece)
+        at += len(piece)
+    if expected != after:
+        raise Difference("the pieces differ", made)
+    text = read(made)
+    one, other = described(old, moved), described(text, lambda place: place)
+    if one != other:
+        number = next(
+            (n for n, pair in enumerate(zip(one, other)) if pair[0] != pair[1]),
+            min(len(one), len(other)),
+        )
+        raise Difference(f"{one[number:][:1]} is now {other[number:][:1]}", made)
+
+
+def edited(text, draw):
+    for _ in range(draw.randint(1, 9)):
+        place = draw.randint(0, len(text))
+        put = draw.choice(EDITS).encode() if draw.random() < 0.8 else b""
+        text = text[:place] + put + text[place + (not put) :]
+    return text
+
+
+def names_of(text):
+    return sorted({token.text for token in text.tokens})
+
+
+def tried(text, draw, number, read=Text):
+    """Renames some bound names of a text: what came of each; it raises the first difference."""
+    tree = Tree({FILE: text}, read)
+    old = tree.text(FILE)
+    bound = [one for one in old.tokens if old.binding(one.place).kind != "free"]
+    words = names_of(old)
+    for token in draw.sample(bound, min(number, len(bound))):
+        new = draw.choice([b"fresh", b"fresh", draw.choice(words), b"__x", b"q"])
+        kind = old.binding(token.place).kind
+        try:
+            places = tree.rename(FILE, token.place, new)[FILE]
+        except Refusal as refusal:
+            yield kind, refusal.args[0].partition(b":")[0].decode()
+            continue
+        try:
+            check(old, places, token.text, new, read)
+        except Difference as difference:
+            said, made = difference.args
+            raise Difference(
+                f"{token.text!r} at {token.place}, a {kind}, to {new!r}: {said}\n"
+                f"before: {text!r}\nafter: {made!r}"
+            )
+        yield kind, "accepted"
+
+
+def main() -> int:
+    parser = argparse.ArgumentParser(
+        description=__doc__, formatter_class=argparse.RawDescriptionHelpFormatter
+    )
+    parser.add_argument("--sources", type=pathlib.Path, help="a folder of C files")
+    parser.add_argument("--texts", type=int, default=400, help="how many texts, 400 by default")
+    parser.add_argument("--first", type=int, default=1, help="the first seed, 1 by default")
+    parser.add_argument("--renames", type=int, default=4, help="how many in each, 4 by default")
+    parser.add_argument("--drawn", action="store_true", help="texts are drawn as a whole")
+    given = parser.parse_args()
+    if not given.drawn and given.sources is None:
+        parser.error("--sources or --drawn is needed")
+    files = [] if given.drawn else [*c_files(given.sources, form=".*", largest=LARGEST)]
+    counts: collections.Counter = collections.Counter()
+    for seed in range(given.first, given.first + given.texts):
+        draw = random.Random(f"renames {seed}")
+        if given.drawn:
+            text = DrawNames(seed).text()
+        else:
+            text = (given.sources / draw.choice(files)).read_bytes()
+            text = edited(text, draw) if draw.random() < 0.5 else text
+        try:
+            counts.update(tried(text, draw, given.renames))
+        except Difference as difference:
+            print(f"the text of seed {seed}: {difference.args[0]}")
+            return 1
+    accepted = sum(count for (_, said), count in counts.items() if said == "accepted")
+    print(
+        f"{given.texts} texts from seed {given.first} on: {accepted} renames accepted,"
+        f" {sum(counts.values()) - accepted} refused, none wrong"
+    )
+    for (kind, said), count in sorted(counts.items()):
+        print(f"  {kind}: {said}: {count}")
+    return 0
+
+
+if __name__ == "__main__":
+    sys.exit(main())

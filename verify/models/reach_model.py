@@ -1,0 +1,544 @@
+"""What names of the file mean in a set of files, and what a rename does: written from the rules
+alone.
+
+`names_model.py` says what is bound within a text. Here a free name is looked for in the files: in
+those that the asking file includes first, then in the nearest ones. A rename of a thing gives the
+places of its uses, or the reason why it is refused.
+"""
+
+from __future__ import annotations
+
+import functools
+import re
+from typing import NamedTuple
+
+import wide_model
+from names_model import Text, Thing
+from server_model import headers, is_counted_alike
+from text_model import RESERVED
+
+PRIVATE_KINDS = frozenset([b"d", b"t", b"s", b"u", b"g", b"e", b"m"])
+TAG_KINDS = {b"struct": b"s", b"union": b"u", b"enum": b"g"}
+KINDS_OF_SPACE = {"ordinary": b"fdtevxp", "tag": b"sug"}
+STRANGE = frozenset([b"offsetof", b"__builtin_offsetof"])
+MOST_ROUNDS = 16
+JOINS = b"\\\n", b"\\\r\n"
+
+
+class Refusal(Exception):
+    """A rename is refused: the text that says why."""
+
+
+class Found(NamedTuple):
+    """A definition of a file."""
+
+    file: bytes
+    place: int
+    kind: bytes
+    name: bytes
+    is_local: bool
+
+
+class NameOfFile(NamedTuple):
+    """A free name of a space, with the definitions that it means."""
+
+    name: bytes
+    space: str
+    meaning: tuple
+
+
+class Macro(NamedTuple):
+    """A definition of a macro: its parameters, the spaces and the tokens of its text."""
+
+    parameters: frozenset
+    tokens: list
+    spaces: list
+
+
+def folders(file):
+    return file.split(b"/")[:-1]
+
+
+def distance(one, other):
+    """How many folders of either of two files the other does not share from the left."""
+    shared = 0
+    for left, right in zip(folders(one), folders(other)):
+        if left != right:
+            break
+        shared += 1
+    return len(folders(one)) + len(folders(other)) - 2 * shared
+
+
+def resolved(path):
+    """A path without `.` and `..`, or none where it leads out of the folder of all files."""
+    begin, parts = b"/" if path.startswith(b"/") else b"", []
+    for part in path.split(b"/"):
+        if part == b".." and not parts:
+            return None
+        if part == b"..":
+            parts.pop()
+        elif part not in (b"", b"."):
+            parts.append(part)
+    return begin + b"/".join(parts)
+
+
+class Tree:
+    """A set of files, by name, and what their names mean."""
+
+    def __init__(self, files, read=Text):
+        self.files, self.read = dict(files), read
+        self.texts = {}
+        self.closures = {}
+
+    def text(self, file):
+        if file not in self.texts:
+            self.texts[file] = self.read(self.files[file])
+        return self.texts[file]
+
+    # ---- what files name
+
+    def header(self, file, name):
+        """The file that a header of a file names, or none."""
+        beside = resolved(b"/".join([*folders(file), name]))
+        if beside in self.files:
+            return beside
+        tail = re.sub(rb"^(\.{1,2}/)+", b"", name)
+        named = [one for one in self.files if one == tail or one.endswith(b"/" + tail)]
+        return min(named, key=lambda one: (distance(file, one), one), default=None)
+
+    def closure(self, file):
+        """A file and all that it includes, and that these include."""
+        if file not in self.closures:
+            found = {file: None}
+            waiting = [file]
+            for one in waiting:
+                for _, name in headers(self.files[one]):
+                    other = self.header(one, name)
+                    if other is not None and other not in found:
+                        found[other] = None
+                        waiting.append(other)
+            self.closures[file] = found
+        return self.closures[file]
+
+    # ---- definitions
+
+    @functools.cached_property
+    def defined(self):
+        """All definitions with prototypes, by name, each list by file and place."""
+        found: dict = {}
+        for file, text in sorted(self.files.items()):
+            for one in wide_model.facts(text).definitions:
+                found.setdefault(one.name, []).append(
+                    Found(file, one.place, one.kind, one.name, one.local)
+                )
+        return found
+
+    def of_kinds(self, name, kinds):
+        """The definitions of a name of these kinds; what a block declares is none of the file."""
+        return [
+            one
+            for one in self.defined.get(name, [])
+            if one.kind in kinds and not self.is_of_block(one)
+        ]
+
+    def is_of_block(self, one):
+        return one.kind in b"esug" and self.text(one.file).bound[one.place].kind == "local"
+
+    def is_private(self, one):
+        return one.file.endswith(b".c") and (one.kind in PRIVATE_KINDS or one.is_local)
+
+    def is_in_view(self, file, one):
+        return not self.is_private(one) or one.file in self.closure(file)
+
+    def candidates(self, file, place):
+        """The definitions of a free name in the kinds of its space, or in those beside them."""
+        text = self.text(file)
+        stream, index = text.stream_at(place)
+        name = stream.tokens[index].text
+        for kinds in self.kinds(text.space(place), stream, index):
+            found = self.of_kinds(name, kinds)
+            if found:
+                return found
+        return []
+
+    def kinds(self, space, stream, index):
+        """The kinds of definitions that a name can have, first choices first."""
+        if space in ("member", "designator"):
+            return [b"m", b"d"]
+        if space == "tag":
+            return [self.kind_of_tag(stream, index), b"sug", b"d"]
+        if space == "macro":
+            return [b"d"]
+        if space == "ordinary":
+            is_called = stream.text(index + 1) == b"("
+            return [b"fdp", b"vxte"] if is_called else [b"fdtevxp"]
+        return []
+
+    def kind_of_tag(self, stream, index):
+        """The kind of the word before a tag: the names between it and a body count for nothing."""
+        index -= 1
+        while index >= 0 and stream.text(index) not in TAG_KINDS:
+            index -= 1
+        return TAG_KINDS.get(stream.text(index), b"")
+
+    def meaning(self, file, place):
+        """The definitions that a free name means, in their order."""
+        return self.ordered(file, self.candidates(file, place))
+
+    def ordered(self, file, found, are_declarations=False):
+        """Which of some definitions count in a file, in their order."""
+        closure = self.closure(file)
+        found = [one for one in found if self.is_in_view(file, one)] or found
+        if are_declarations:
+            found = [one for one in found if one.kind in (b"x", b"p")]
+        else:
+            found = [one for one in found if one.kind not in (b"x", b"p")] or found
+        here = [one for one in found if one.file == file]
+        included = [one for one in found if one.file in closure]
+        if here:
+            found = here
+        elif included:
+            has_function = any(one.kind == b"f" for one in included)
+            found = [
+                one
+                for one in found
+                if one.file in closure
+                or (not has_function and one.kind in (b"f", b"v") and one.file.endswith(b".c"))
+            ]
+        elif found:
+            found = [one for one in found if one.kind in (b"f", b"v")] or found
+            nearest = min(distance(file, one.file) for one in found)
+            found = [one for one in found if distance(file, one.file) == nearest]
+        return sorted(
+            found,
+            key=lambda one: (
+                one.file not in closure,
+                distance(file, one.file),
+                one.file,
+                one.place,
+            ),
+        )
+
+    def declaration(self, file, place):
+        """The external declarations and prototypes of a name that are in view; else what its
+        definition is."""
+        thing = self.text(file).binding(place)
+        if thing.kind == "free":
+            found = [one for one in self.candidates(file, place) if self.is_in_view(file, one)]
+            declared = self.ordered(file, found, True)
+            if declared:
+                return [(one.file, one.place) for one in declared]
+        return self.definition(file, place)
+
+    def definition(self, file, place):
+        """Where the definitions of a name stand: files and places."""
+        text = self.text(file)
+        if text.binding(place).kind != "free":
+            found = text.definition(place)
+            return [] if found is None else [(file, found)]
+        return [(one.file, one.place) for one in self.meaning(file, place)]
+
+    # ---- things of the files
+
+    def thing(self, file, place):
+        """What a name stands for: what it is bound to, a name of the file, or none."""
+        bound = self.text(file).binding(place)
+        if bound.kind != "free":
+            return bound if self.text(file).definition(place) is not None else None
+        meaning = self.meaning(file, place)
+        if not meaning or meaning[0].kind == b"m":
+            return None  # members are told apart by their types
+        is_macro = meaning[0].kind == b"d"
+        space = "macro" if is_macro else "tag" if bound.space == "tag" else "ordinary"
+        return NameOfFile(bound.name, space, tuple(meaning))
+
+    def owner(self, thing):
+        """The file to which all definitions that a name means are private, or none."""
+        files = {one.file for one in thing.meaning}
+        is_private = all(self.is_private(one) for one in thing.meaning)
+        return files.pop() if is_private and len(files) == 1 else None
+
+    def reach(self, thing):
+        """The files in which a name of the file has its uses."""
+        owner = self.owner(thing)
+        if owner is not None:
+            return [
+                one
+                for one in sorted(self.files)
+                if owner in self.closure(one) or one in self.closure(owner)
+            ]
+        private = self.private_in(thing)
+        return [one for one in sorted(self.files) if one not in private]
+
+    def private_in(self, thing):
+        """The files that have a private definition of the name in its space."""
+        kinds = b"d" if thing.space == "macro" else KINDS_OF_SPACE[thing.space]
+        return {one.file for one in self.of_kinds(thing.name, kinds) if self.is_private(one)}
+
+    def free_in(self, file, thing):
+        """The places of a file that a name of the file has: free ones of its space, and those of
+        directives in the spaces ordinary and macro; a macro has those of all spaces."""
+        text = self.text(file)
+        return [
+            token.place
+            for token in text.named.get(thing.name, [])
+            if text.binding(token.place).kind == "free"
+            and (thing.space == "macro" or self.is_of(text, token, thing.space))
+        ]
+
+    def is_of(self, text, token, space):
+        own = text.space(token.place)
+        is_code = token.place in text.index
+        return own == space or (space == "ordinary" and not is_code and own == "macro")
+
+    def uses(self, file, place):
+        """The uses of what a name stands for: files and places with their letters."""
+        text, thing = self.text(file), self.thing(file, place)
+        if thing is None:
+            return []
+        if isinstance(thing, Thing):
+            return [(file, *use) for use in text.uses(thing)]
+        defined = {(one.file, one.place) for one in self.of_kinds(thing.name, wide_model.KINDS)}
+        return [
+            (one, use, self.text(one).letter(use, (one, use) in defined))
+            for one in self.reach(thing)
+            for use in self.free_in(one, thing)
+        ]
+
+    # ---- macros
+
+    @functools.cached_property
+    def macros(self):
+        """The definitions of macros, by name."""
+        found: dict = {}
+        for file in sorted(self.files):
+            text = self.text(file)
+            for line, stream in text.directives:
+                if line.own_word != b"define" or not stream.is_name(2):
+                    continue
+                parameters, first = frozenset(), 3
+                if stream.text(3) == b"(" and stream.tokens[3].place == stream.tokens[2].end:
+                    texts = [token.text for token in stream.tokens]
+                    last = texts.index(b")", 4) if b")" in texts[4:] else len(texts) - 1
+                    parameters = frozenset(
+                        token.text for token in stream.tokens[4:last] if token.is_name
+                    )
+                    first = last + 1
+                tokens = stream.tokens[first:]
+                spaces = [text.spaces.get(token.place) for token in tokens]
+                found.setdefault(stream.text(2), []).append(Macro(parameters, tokens, spaces))
+        return found
+
+    def reaching(self, name):
+        """The macros that reach a name; a round that is one too many refuses a rename."""
+
+        def has(one, other):
+            return any(
+                token.text == other and space not in ("macro parameter", "member", "tag")
+                for token, space in zip(one.tokens, one.spaces)
+            )
+
+        def names(one):
+            return {
+                token.text
+                for token, space in zip(one.tokens, one.spaces)
+                if token.is_name and space != "macro parameter"
+            }
+
+        def found_by(found, macro):
+            return any(has(one, name) or names(one) & found for one in self.macros[macro])
+
+        return self.least(found_by)
+
+    @functools.cached_property
+    def strange(self):
+        """The macros whose arguments can become something else than what they are."""
+
+        def is_strange(found, macro):
+            return any(self.makes_strange(one, found) for one in self.macros[macro])
+
+        return self.least(is_strange) | STRANGE
+
+    def makes_strange(self, macro, found):
+        """Whether the text of a macro makes it strange."""
+        tokens = macro.tokens
+        for index, token in enumerate(tokens):
+            if token.text == b"#" or (token.is_name and token.text in found | STRANGE):
+                return True
+            if not token.is_name or token.text not in macro.parameters:
+                continue
+            before = tokens[index - 1].text if index else b""
+            after = tokens[index + 1].text if index + 1 < len(tokens) else b""
+            is_arrow = (
+                index > 1
+                and before == b">"
+                and tokens[index - 2].text == b"-"
+                and tokens[index - 2].end == tokens[index - 1].place
+            )
+            if before in (b".", b"struct", b"union", b"enum", b"goto") or after == b":" or is_arrow:
+                return True
+        return False
+
+    def least(self, belongs):
+        """The least set of macros, in rounds over all of them."""
+        found: set = set()
+        for number in range(MOST_ROUNDS):
+            more = {one for one in self.macros if one not in found and belongs(found, one)}
+            found |= more
+            if not more:
+                return frozenset(found)
+        raise Refusal(b"used in a macro: " + min(more))
+
+    # ---- rename
+
+    def rename(self, file, place, new, has_root=False, is_open=lambda file: True):
+        """The places of a rename, by file; it raises a refusal."""
+        thing = self.thing(file, place) if place in self.text(file).bound else None
+        if thing is None:
+            raise Refusal(b"no such definition")
+        is_name = re.fullmatch(rb"[A-Za-z_][A-Za-z0-9_]*", new) and new not in RESERVED
+        if not is_name or any(
+            one.startswith(b"__") or one in (b"typeof", b"offsetof") for one in (new, thing.name)
+        ):
+            raise Refusal(b"bad name")
+        places: dict = {}
+        for one, use, _ in self.uses(file, place):
+            places.setdefault(one, []).append(use)
+        is_bound = isinstance(thing, Thing)
+        if self.is_used(file, thing, new):
+            raise Refusal(b"name is used already")
+        if self.is_taken(thing, new):
+            raise Refusal(b"a macro or type has this name")
+        if is_bound and thing.kind != "parameter":
+            self.refuse_macros(file, thing, new)
+        self.refuse_arguments(thing, places)
+        self.refuse_outside(file, thing)
+        for one, uses in places.items():
+            self.refuse_odd(one, uses, thing.name)
+        for one in places:
+            if not is_counted_alike(self.files[one]):
+                raise Refusal(b"not text: " + one)
+        for one in places:
+            if has_root and one.startswith(b"/"):
+                raise Refusal(b"outside the root: " + one)
+        for one in places:
+            if not is_open(one):
+                raise Refusal(b"not open: " + one)
+        return places
+
+    def words_of(self, text, thing):
+        """The words of the code in the range of a bound thing, and those of directives in it."""
+        start, end = self.range_of(text, thing)
+        code = [token for token in text.code.tokens if start <= token.place < end and token.is_word]
+        return code, [
+            (line, token)
+            for line, _ in text.directives
+            for token in line.tokens
+            if start <= token.place < end and token.is_word
+        ]
+
+    def range_of(self, text, thing):
+        """Where a new name may not stand: the function, the directive, or a list that is not in a
+        function."""
+        if thing.kind == "parameter" or text.is_list(thing):
+            return thing.start, thing.end
+        for function in text.functions:
+            start = text.code.tokens[function.start].place
+            end = text.code.tokens[function.last].end
+            if start <= thing.start < end:
+                return start, end
+        return thing.start, thing.end
+
+    def is_used(self, file, thing, new):
+        """Whether a new name is used where the thing is."""
+        if isinstance(thing, Thing):
+            code, directives = self.words_of(self.text(file), thing)
+            return any(one.text == new for one in code + [it for _, it in directives])
+        return any(new in self.text(one).named for one in self.files)
+
+    def is_taken(self, thing, new):
+        """Whether a macro or a type has the new name or the old one."""
+        old = thing.name
+        if new in self.macros:
+            return True
+        if old in self.macros and (isinstance(thing, Thing) or thing.space != "macro"):
+            return True
+        if isinstance(thing, NameOfFile):
+            return thing.space == "macro" and any(
+                one.kind != b"d" for one in self.defined.get(old, [])
+            )
+        return bool(self.of_kinds(old, b"t") or self.of_kinds(new, b"t"))
+
+    def refuse_macros(self, file, thing, new):
+        """A local and a label: no macro that the function names reaches the old or new name."""
+        code, directives = self.words_of(self.text(file), thing)
+        reaching = self.reaching(thing.name) | self.reaching(new)
+        for token in code:
+            if token.text in reaching:
+                raise Refusal(b"used in a macro: " + token.text)
+        if any(token.text == thing.name for _, token in directives):
+            raise Refusal(b"used in a macro: " + thing.name)
+
+    def refuse_arguments(self, thing, places):
+        """No use is an argument of a strange macro; of a name of the file no token of the name."""
+        for file, uses in places.items():
+            text = self.text(file)
+            if isinstance(thing, NameOfFile):
+                uses = [token.place for token in text.named.get(thing.name, [])]
+            for use in uses:
+                stream, index = text.stream_at(use)
+                is_list = thing.space == "macro parameter"
+                around = stream.around[index]
+                while around >= 0:
+                    is_macro = stream.is_name(around - 1) and not (is_list and around == 3)
+                    if stream.text(around) == b"(" and stream.pair[around] >= 0 and is_macro:
+                        if stream.text(around - 1) in self.strange:
+                            raise Refusal(
+                                b"in the arguments of a macro: " + stream.text(around - 1)
+                            )
+                    around = stream.around[around]
+
+    def refuse_outside(self, file, thing):
+        """No text that is included in the function uses it; no other file has a private one."""
+        text = self.text(file)
+        if isinstance(thing, Thing):
+            start, end = self.range_of(text, thing)
+            for place, name in headers(self.files[file]):
+                if start <= place < end and thing.kind != "parameter":
+                    raise Refusal(b"used from outside: " + name)
+            return
+        owner = self.owner(thing)
+        if owner is None:
+            for one in sorted(self.private_in(thing)):
+                raise Refusal(b"used from outside: " + one)
+            return
+        for one in self.reach(thing):
+            if one != owner and self.free_in(one, thing):
+                raise Refusal(b"used from outside: " + one)
+
+    def refuse_odd(self, file, uses, name):
+        """No odd byte stands beside a place that is edited."""
+        text = self.files[file]
+        for use in uses:
+            before, behind = text[:use], text[use + len(name) :]
+            if (
+                is_odd(before[-1:])
+                or is_odd(behind[:1])
+                or before.endswith(JOINS)
+                or behind.startswith(JOINS)
+            ):
+                line = text.count(b"\n", 0, use) + 1
+                raise Refusal(b"odd bytes: %s:%d" % (file, line))
+
+
+def is_odd(byte):
+    return bool(byte) and (byte in b"$@\"'" or byte[0] >= 0x80)
+
+
+def renamed(text, places, name, new):
+    """A text with another name at these places."""
+    out, end = [], 0
+    for place in sorted(places):
+        out += [text[end:place], new]
+        end = place + len(name)
+    return b"".join([*out, text[end:]])
