@@ -25,6 +25,7 @@ from edits import TOP, Edit, Function, all_functions, edits, snake
 PAGE = TOP / "docs" / "INDEX.md"
 CRATES = [
     "cb_scan",
+    "cb_names",
     "cb_tags",
     "cb_wire",
     "cb_index",
@@ -34,7 +35,7 @@ CRATES = [
     "cb_words",
     "cbrowse",
 ]
-TESTS = ["text_tests", "wire_tests", "index_tests", "desk_tests"]
+TESTS = ["text_tests", "names_tests", "wire_tests", "index_tests", "desk_tests"]
 MOST = 3  # of a kind are named, and the rest is counted
 
 # The input lines of a session that ask for a function.

@@ -1,0 +1,79 @@
+-- The label that a name token names, and all tokens that name it (ISO C 2011, 6.2.1 and 6.8.1, found
+-- in tokens by this project's profile). A label belongs to its function.
+use Rattle.std.specs.Prelude.{ℕ, zero, suc, Bool, true, false, ◌&&◌, ◌||◌, nat_le, nat_lt, not, List, filter}
+use Rattle.std.specs.Prelude.{find, length, map, if◌then◌else◌, Option, None, Some}
+use Rattle.std.specs.List.{prefix_len, range_with_len}
+use Rattle.std.specs.Option.{option_map, option_map_or}
+use Rattle.std.specs.Str.{bytes_eq}
+use Rattle.cb_scan.specs.declared.lex.piece.Span.{Span}
+use Rattle.cb_scan.specs.declared.rules.scope.Range.{Range}
+use Rattle.cb_scan.specs.lex.Tokens.{bytes_of}
+use Rattle.cb_scan.specs.rules.wide.Words.{is_wide_name}
+use Rattle.cb_names.specs.Braces.{is_name_at}
+use Rattle.cb_names.specs.Functions.{body_of, function_at, items, own_items}
+use Rattle.cb_names.specs.Pairs.{at}
+use Rattle.cb_names.specs.Statements.{is_label}
+use Rattle.cb_names.specs.declared.word.Item.{Item}
+use Rattle.cb_names.specs.declared.word.Word.{Word}
+use Rattle.cb_names.specs.declared.word.Word.TheVariants as word
+
+-- a label: where it is defined, if it is, and all tokens that name it, by place
+pub record Labelled : Type 0 where
+  pub definition : Option Span
+  pub uses : List Span
+
+abbrev pub span : Item → Span
+span x = x.token.token.span
+
+-- a name token that holds a place or ends at it
+abbrev pub is_touched : ℕ → Item → Bool
+is_touched place x =
+    is_wide_name x.token.role && nat_le (span x).start place && nat_le place (span x).end
+
+-- the index of the first such token
+abbrev pub index_at : ℕ → List Item → ℕ
+index_at place xs = prefix_len (λ x. not (is_touched place x)) xs
+
+abbrev pub is_goto : Word → Bool
+is_goto word.Goto = true
+is_goto _ = false
+
+-- `goto` is directly before index k
+unfoldable pub follows_goto : List Item → ℕ → Bool
+follows_goto xs zero = false
+follows_goto xs (suc k) = is_goto (at xs k).word
+
+-- the name at index k names a label: it is one, or `goto` is directly before it
+abbrev pub names_label : List Item → ℕ → ℕ → Bool
+names_label xs b k = is_name_at xs k && (follows_goto xs k || is_label xs b k)
+
+-- two tokens have the same bytes
+abbrev pub is_same : List ℕ → List Item → ℕ → ℕ → Bool
+is_same text xs j k = bytes_eq (bytes_of text (span (at xs j))) (bytes_of text (span (at xs k)))
+
+-- the spans of the tokens among the first n that pass a test
+abbrev pub spans : List Item → (ℕ → Bool) → ℕ → List Span
+spans xs test n = map (λ j. span (at xs j)) (filter test (range_with_len 0 n))
+
+-- the label that the token at index k of a function names
+abbrev pub label_of : List ℕ → List Item → ℕ → ℕ → Labelled
+label_of text xs b k = record {
+  definition = option_map (λ j. span (at xs j))
+      (find (λ j. is_label xs b j && is_same text xs j k) (range_with_len 0 (length xs)));
+  uses = spans xs (λ j. names_label xs b j && is_same text xs j k) (length xs);
+}
+
+-- the label that the token at index k names, if it names one
+abbrev pub label_named : List ℕ → List Item → ℕ → ℕ → Option Labelled
+label_named text xs b k =
+    if nat_lt k (length xs) && names_label xs b k then Some (label_of text xs b k) else None
+
+-- the label of a function that is named at a place
+abbrev pub label_in : List ℕ → List Item → ℕ → ℕ → Option Labelled
+label_in text xs b place = label_named text xs b (index_at place xs)
+
+-- the label that is named at a place of a text
+abbrev pub label_at : List ℕ → ℕ → Option Labelled
+label_at text place =
+    option_map_or (λ (r : Range). label_in text (own_items (items text) r)
+    (body_of (own_items (items text) r) r) place) (function_at text place) None

@@ -1,0 +1,11 @@
+pub mod Braces
+pub mod Declarations
+pub mod Functions
+pub mod HardAttributes
+pub mod Labels
+pub mod Pairs
+pub mod Shapes
+pub mod Statements
+pub mod Tables
+pub mod Words
+pub mod steps

@@ -1,0 +1,5 @@
+pub mod Hiding
+pub mod Labelling
+pub mod Opening
+pub mod Pairing
+pub mod Starting

@@ -1,0 +1,171 @@
+//! The function around a place.
+ghost use Rattle.std.specs.Prelude.{◌≡◌, ◌<◌, ◌≤◌, ◌^◌, IfErr, IfOk, MatchOption, None, Some, find};
+ghost use Rattle.std.specs.Prelude.{length, map, nat_lt};
+ghost use Rattle.std.specs.List.{AllByRecursion, prefix_len};
+ghost use Rattle.cb_scan.specs.CodeTokens.{IsTokenOf};
+ghost use Rattle.cb_scan.specs.declared.rules.scope.Range.{Range};
+ghost use Rattle.cb_names.specs.Functions.{IsItemOf, before, body_of, ends_head, extent, function_at};
+ghost use Rattle.cb_names.specs.Functions.{head_before, is_before, items, opens_behind, own_items};
+ghost use Rattle.cb_names.specs.Words.{item_of};
+
+use crate::hard::without_hard;
+use crate::pairs::sign;
+use crate::word::{Item, item_of};
+use cb_scan::{Range, Rules, ScanError, Source, WideToken, code_tokens, function_ranges};
+use std::alloc::{AllocError, Global};
+
+/// The tokens of the code, and what the word of each is.
+fn items_of(alloc: Global, text: &[u8], tokens: &[WideToken]) -> Result<Vec<Item>, AllocError>
+    requires { AllByRecursion (IsTokenOf text.now) tokens.now }
+    ensures { IfOk result (λ found. found.items ≡ map (item_of text.now) tokens.now) }
+{
+    let mut found = Vec::with_capacity(alloc, tokens.len())?;
+    for i in 0..tokens.len() {
+        found.push(item_of(text, &tokens[i]))?;
+    }
+    Ok(found)
+}
+
+fn is_before(place: u32, item: &Item) -> bool
+    ensures { result ≡ is_before place item.now }
+{
+    item.token.token.span.start < place
+}
+
+/// How many tokens begin before a place.
+fn before(place: u32, items: &[Item]) -> usize
+    ensures value { result ≡ before place items.now }
+    ensures within { result ≤ length items.now }
+{
+    items
+        .iter()
+        .take_while(|item| is_before(place, *item))
+        .count()
+}
+
+/// A `;` or a brace, behind which a head begins.
+fn ends_head(items: &[Item], at: u32) -> bool
+    ensures { result ≡ ends_head items.now at }
+{
+    matches!(sign(items, at), b';' | b'{' | b'}')
+}
+
+/// The index behind the last of these before an index, or 0.
+#[tactic(auto, unfolding(crate::specs::Functions::head_before))]
+fn head_before(items: &[Item], at: u32) -> u32
+    ensures value { result ≡ head_before items.now at }
+    ensures within { result ≤ at }
+{
+    let mut head = at;
+    'tokens: while head > 0 && !ends_head(items, head - 1) {
+        head -= 1;
+    }
+    head
+}
+
+fn opens_behind(place: u32, item: &Item) -> bool
+    ensures { result ≡ opens_behind place item.now }
+{
+    item.token.counted && place < item.token.token.span.start
+}
+
+/// The index of the `{` of the body of a function.
+pub(crate) fn body_of(items: &[Item], range: Range) -> usize
+    ensures value { result ≡ body_of items.now range }
+    ensures within { result ≤ length items.now }
+{
+    let place = range.name.start;
+    items
+        .iter()
+        .take_while(|item| !opens_behind(place, *item))
+        .count()
+}
+
+/// The tokens of a function without the attributes that are left out everywhere.
+fn own_items(alloc: Global, items: &[Item], range: Range) -> Result<Vec<Item>, AllocError>
+    requires { length items.now < 2 ^ 32 }
+    ensures value { IfOk result (λ found. found.items ≡ own_items items.now range) }
+    ensures few { IfOk result (λ found. length found.items ≤ length items.now) }
+{
+    let head = head_before(items, before(range.name.start, items) as u32) as usize;
+    let until = &items[..before(range.end, items)];
+    if head <= until.len() {
+        without_hard(alloc, &until[head..])
+    } else {
+        without_hard(alloc, &[])
+    }
+}
+
+/// The same of the tokens of the code.
+fn own_items_of(
+    alloc: Global,
+    text: &[u8],
+    tokens: &[WideToken],
+    range: Range,
+) -> Result<Vec<Item>, AllocError>
+    requires within { AllByRecursion (IsTokenOf text.now) tokens.now }
+    requires few { length tokens.now < 2 ^ 32 }
+    ensures value { IfOk result
+        (λ found. found.items ≡ own_items (map (item_of text.now) tokens.now) range) }
+    ensures few { IfOk result (λ found. length found.items ≤ length tokens.now) }
+    ensures within { IfOk result (λ found. AllByRecursion (IsItemOf text.now) found.items) }
+{
+    let items = items_of(alloc, text, tokens)?;
+    match own_items(alloc, items.as_slice(), range) {
+        Ok(found) => Ok(found),
+        Err(error) => Err(error),
+    }
+}
+
+/// Whether a function ends behind a place.
+fn ends_behind(place: u32, range: &Range) -> bool
+    ensures { result ≡ nat_lt place range.now.end }
+{
+    place < range.end
+}
+
+/// The function that ends first behind a place.
+fn function_among(ranges: &[Range], place: u32) -> Option<Range>
+    ensures { result ≡ find (λ (r : Range). nat_lt place r.end) ranges.now }
+{
+    for (i, range) in ranges.iter().enumerate() {
+        if ends_behind(place, range) {
+            return Some(ranges[i]);
+        }
+    }
+    None
+}
+
+/// A function: its range, and its tokens without the attributes that are left out everywhere.
+#[derive(Drop)]
+pub(crate) struct Function {
+    pub range: Range,
+    pub items: Vec<Item>,
+}
+
+/// The function around a place, or the next one.
+pub(crate) fn function_at(
+    alloc: Global,
+    source: &Source,
+    place: u32,
+) -> Result<Option<Function>, ScanError>
+    ensures value { IfOk result (λ found. MatchOption found
+        (function_at source.now place ≡ None)
+        (λ f. (function_at source.now place ≡ Some f.range)
+        × (f.items.items ≡ own_items (items source.now) f.range))) }
+    ensures few { IfOk result (λ found. MatchOption found (Unit {0})
+        (λ f. length f.items.items < 2 ^ 32)) }
+    ensures within { IfOk result (λ found. MatchOption found (Unit {0})
+        (λ f. AllByRecursion (IsItemOf source.now) f.items.items)) }
+    ensures memory { IfErr result (λ e. e ≡ ScanError.OutOfMemory) }
+{
+    let ranges = function_ranges(alloc, Rules::Wide, source)?;
+    let Some(range) = function_among(ranges.as_slice(), place) else {
+        return Ok(None);
+    };
+    let tokens = code_tokens(alloc, source)?;
+    match own_items_of(alloc, source.bytes(), tokens.as_slice(), range) {
+        Ok(items) => Ok(Some(Function { range, items })),
+        Err(_) => Err(ScanError::OutOfMemory),
+    }
+}

@@ -1,0 +1,294 @@
+//! The labels of a function.
+ghost use Rattle.std.specs.Prelude.{◌≡◌, ◌<◌, ◌≤◌, ◌+◌, ◌^◌, ◌&&◌, IfErr, IfOk, length};
+ghost use Rattle.std.specs.Prelude.{◌++◌, ◌∷◌, [], false, if◌then◌else◌, slice_index_or};
+ghost use Rattle.std.specs.List.{AllByRecursion, prefix_len, range_with_len};
+ghost use Rattle.std.specs.Str.{bytes_eq};
+ghost use Rattle.cb_scan.specs.lex.Tokens.{bytes_of};
+ghost use Rattle.cb_names.specs.Functions.{IsItemOf, body_of};
+ghost use Rattle.cb_names.specs.Labels.{follows_goto, index_at, is_goto, is_same, is_touched};
+ghost use Rattle.cb_names.specs.Labels.{label_at, label_in, label_named, names_label, span};
+ghost use Rattle.cb_names.specs.Pairs.{at};
+ghost use Rattle.cb_names.specs.Shapes.{IsShape};
+ghost use Rattle.cb_names.specs.Statements.{is_label, is_lone_colon, starts};
+ghost use Rattle.cb_names.specs.Tables.{IsTable};
+ghost use Rattle.cb_names.specs.steps.Labelling.{defines, definition_by, is_label_by};
+ghost use Rattle.cb_names.specs.steps.Labelling.{names_label_by, uses, uses_by};
+
+use crate::braces::is_name_at;
+use crate::function::{Function, body_of, function_at};
+use crate::shape::{Shape, shape_of};
+use crate::statements::{is_lone_colon, starts_of};
+use crate::word::{Item, Word};
+use cb_scan::{ScanError, Source, Span};
+use std::alloc::{AllocError, Global};
+use std::marker::Model;
+
+/// A label of a function.
+#[derive(Drop)]
+pub struct Label {
+    definition: Option<Span>,
+    uses: Vec<Span>,
+}
+
+impl Model for Label {
+    ghost use Rattle.cb_names.specs.Labels.{Labelled};
+
+    ghost Value = { Labelled };
+
+    ghost view = { λ l. record { definition = l.definition; uses = l.uses.items } };
+}
+
+impl Label {
+    /// Its first definition; none where its function has only `goto` with this name.
+    pub fn definition(&self) -> Option<Span>
+        ensures { result ≡ self.now.definition }
+    {
+        self.definition
+    }
+
+    /// All tokens that name it, by place: each definition, and each name behind `goto`.
+    pub fn uses(&self) -> &[Span]
+        ensures { result.now ≡ self.now.uses }
+    {
+        self.uses.as_slice()
+    }
+}
+
+fn is_touched(place: u32, item: &Item) -> bool
+    ensures { result ≡ is_touched place item.now }
+{
+    let span = item.token.token.span;
+    item.token.role.is_name() && span.start <= place && place <= span.end
+}
+
+/// The index of the first name token that holds a place or ends at it; the number of tokens where
+/// none does.
+fn index_at(place: u32, items: &[Item]) -> usize
+    ensures value { result ≡ index_at place items.now }
+    ensures within { result ≤ length items.now }
+{
+    items
+        .iter()
+        .take_while(|item| !is_touched(place, *item))
+        .count()
+}
+
+/// Whether `goto` is directly before a token.
+#[tactic(auto, unfolding(crate::specs::Labels::follows_goto))]
+fn follows_goto(items: &[Item], at: u32) -> bool
+    ensures { result ≡ follows_goto items.now at }
+{
+    if at == 0 {
+        return false;
+    }
+    match items.get(at as usize - 1) {
+        Some(item) => matches!(item.word, Word::Goto),
+        None => false,
+    }
+}
+
+/// The answer for a token; false where there is no such token.
+fn begins(starts: &[bool], at: u32) -> bool
+    ensures { result ≡ slice_index_or starts.now at false }
+{
+    match starts.get(at as usize) {
+        Some(begins) => *begins,
+        None => false,
+    }
+}
+
+/// The span of a token.
+fn span_at(items: &[Item], index: u32) -> Span
+    requires { index < length items.now }
+    ensures { result ≡ span (at items.now index) }
+{
+    items[index as usize].token.token.span
+}
+
+/// The bytes of a token.
+fn bytes_at<'a>(text: &'a [u8], items: &[Item], index: u32) -> &'a [u8]
+    requires within { AllByRecursion (IsItemOf text.now) items.now }
+    requires index { index < length items.now }
+    ensures { result.now ≡ bytes_of text.now (span (at items.now index)) }
+{
+    let span = span_at(items, index);
+    &text[span.start as usize..span.end as usize]
+}
+
+/// Whether two tokens have the same bytes.
+fn is_same(text: &[u8], items: &[Item], j: u32, k: u32) -> bool
+    requires within { AllByRecursion (IsItemOf text.now) items.now }
+    requires first { j < length items.now }
+    requires second { k < length items.now }
+    ensures { result ≡ is_same text.now items.now j k }
+{
+    bytes_at(text, items, j) == bytes_at(text, items, k)
+}
+
+/// Whether a name is a label, where a statement begins with it or not.
+fn is_label(items: &[Item], begins: bool, at: u32) -> bool
+    requires few { length items.now < 2 ^ 32 }
+    requires within { at < length items.now }
+    ensures { result ≡ is_label_by items.now begins at }
+{
+    is_name_at(items, at) && is_lone_colon(items, at + 1) && begins
+}
+
+/// Whether a name token names a label, where a statement begins with it or not.
+fn names_label(items: &[Item], begins: bool, at: u32) -> bool
+    requires few { length items.now < 2 ^ 32 }
+    requires within { at < length items.now }
+    ensures { result ≡ names_label_by items.now begins at }
+{
+    is_name_at(items, at) && (follows_goto(items, at) || is_label(items, begins, at))
+}
+
+/// Whether a token is a label with the name of another one.
+fn defines(text: &[u8], items: &[Item], starts: &[bool], k: u32, j: u32) -> bool
+    requires few { length items.now < 2 ^ 32 }
+    requires within { AllByRecursion (IsItemOf text.now) items.now }
+    requires first { j < length items.now }
+    requires second { k < length items.now }
+    ensures { result ≡ defines text.now items.now starts.now k j }
+{
+    is_label(items, begins(starts, j), j) && is_same(text, items, j, k)
+}
+
+/// Whether a token names a label with the name of another one.
+fn uses(text: &[u8], items: &[Item], starts: &[bool], k: u32, j: u32) -> bool
+    requires few { length items.now < 2 ^ 32 }
+    requires within { AllByRecursion (IsItemOf text.now) items.now }
+    requires first { j < length items.now }
+    requires second { k < length items.now }
+    ensures { result ≡ uses text.now items.now starts.now k j }
+{
+    names_label(items, begins(starts, j), j) && is_same(text, items, j, k)
+}
+
+/// The first label with the name of a token.
+fn definition_of(text: &[u8], items: &[Item], starts: &[bool], k: u32) -> Option<Span>
+    requires few { length items.now < 2 ^ 32 }
+    requires within { AllByRecursion (IsItemOf text.now) items.now }
+    requires index { k < length items.now }
+    ensures { result ≡ definition_by text.now items.now starts.now k }
+{
+    for j in 0..items.len() as u32 {
+        if defines(text, items, starts, k, j) {
+            return Some(span_at(items, j));
+        }
+    }
+    None
+}
+
+/// Appends the span of a token, if it is wanted.
+fn push_if(is_wanted: bool, span: Span, uses: &mut Vec<Span>) -> Result<(), AllocError>
+    ensures { IfOk result
+        (λ _. uses.new.items ≡ uses.old.items ++ (if is_wanted then span ∷ [] else [])) }
+{
+    if is_wanted {
+        uses.push(span)?;
+    }
+    Ok(())
+}
+
+/// All tokens that name the label with the name of a token.
+fn uses_of(
+    alloc: Global,
+    text: &[u8],
+    items: &[Item],
+    starts: &[bool],
+    k: u32,
+) -> Result<Vec<Span>, AllocError>
+    requires few { length items.now < 2 ^ 32 }
+    requires within { AllByRecursion (IsItemOf text.now) items.now }
+    requires index { k < length items.now }
+    ensures { IfOk result (λ uses. uses.items ≡ uses_by text.now items.now starts.now k) }
+{
+    let mut found = Vec::new(alloc);
+    for j in 0..items.len() as u32 {
+        let is_wanted = uses(text, items, starts, k, j);
+        push_if(is_wanted, span_at(items, j), &mut found)?;
+    }
+    Ok(found)
+}
+
+/// The label of a function that is named at a place.
+fn label_in(
+    alloc: Global,
+    text: &[u8],
+    items: Vec<Item>,
+    body: u32,
+    place: u32,
+) -> Result<Option<Label>, AllocError>
+    requires few { length items.items < 2 ^ 32 }
+    requires within { AllByRecursion (IsItemOf text.now) items.items }
+    ensures { IfOk result (λ found. found ≡ label_in text.now items.items body place) }
+{
+    let k = index_at(place, items.as_slice());
+    if k == items.len() {
+        return Ok(None);
+    }
+    let shape = shape_of(alloc, items, body)?;
+    let starts = starts_of(alloc, &shape)?;
+    label_of(alloc, text, &shape, starts.as_slice(), k as u32)
+}
+
+/// The label that the token at an index names, if it names one.
+fn label_of(
+    alloc: Global,
+    text: &[u8],
+    shape: &Shape,
+    begun: &[bool],
+    k: u32,
+) -> Result<Option<Label>, AllocError>
+    requires shape { IsShape shape.now }
+    requires within { AllByRecursion (IsItemOf text.now) shape.now.items.items }
+    requires index { k < length shape.now.items.items }
+    requires starts { IsTable (starts shape.now.items.items shape.now.body)
+        (length shape.now.items.items) begun.now }
+    ensures { IfOk result (λ found. found
+        ≡ label_named text.now shape.now.items.items shape.now.body k) }
+{
+    let items = shape.items.as_slice();
+    if names_label(items, begins(begun, k), k) {
+        let uses = uses_of(alloc, text, items, begun, k)?;
+        Ok(Some(Label {
+            definition: definition_of(text, items, begun, k),
+            uses,
+        }))
+    } else {
+        Ok(None)
+    }
+}
+
+/// The same of a function.
+fn label_of_function(
+    alloc: Global,
+    source: &Source,
+    place: u32,
+    function: Function,
+) -> Result<Option<Label>, AllocError>
+    requires few { length function.items.items < 2 ^ 32 }
+    requires within { AllByRecursion (IsItemOf source.now) function.items.items }
+    ensures { IfOk result (λ found. found ≡ label_in source.now function.items.items
+        (body_of function.items.items function.range) place) }
+{
+    let body = body_of(function.items.as_slice(), function.range) as u32;
+    label_in(alloc, source.bytes(), function.items, body, place)
+}
+
+/// The label that is named at a place of a text: by a name token that holds the place or ends at it,
+/// and is a label or stands behind `goto`. Refused memory is the only error. Time in proportion to
+/// the text.
+pub fn label_at(alloc: Global, source: &Source, place: u32) -> Result<Option<Label>, ScanError>
+    ensures label { IfOk result (λ found. found ≡ label_at source.now place) }
+    ensures memory { IfErr result (λ e. e ≡ ScanError.OutOfMemory) }
+{
+    let Some(function) = function_at(alloc, source, place)? else {
+        return Ok(None);
+    };
+    match label_of_function(alloc, source, place, function) {
+        Ok(found) => Ok(found),
+        Err(_) => Err(ScanError::OutOfMemory),
+    }
+}
