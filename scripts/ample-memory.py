@@ -20,6 +20,7 @@ import pathlib
 import subprocess
 import sys
 import tempfile
+from typing import Iterator, Optional
 
 TOP = pathlib.Path(__file__).resolve().parent.parent
 PATIENCE = 60  # seconds until a run is given up
@@ -55,19 +56,23 @@ class Checks:
         run = subprocess.run([self.program, *words], **how)
         return run.returncode, run.stdout, run.stderr
 
-    def expect(self, name: str, got, want):
+    def expect(self, name: str, got, want) -> None:
         self.runs += 1
         if got == want:
             return
         self.failed += 1
         print(f"FAILED {name}: {short(got)} in place of {short(want)}")
 
-    def write(self, name: str, text: bytes):
+    def write(self, name: str, text: bytes) -> None:
         (self.folder / name).write_bytes(text)
+
+    def read(self, name: str) -> Optional[bytes]:
+        path = self.folder / name
+        return path.read_bytes() if path.exists() else None
 
     # ---- sessions and jobs
 
-    def definitions(self):
+    def definitions(self) -> None:
         """70,000 functions in one file, by name and by tag name, in a session and in jobs."""
         names = sorted(b"f%d" % n for n in range(DEFINITIONS))
         text = b"".join(b"int f%d(void) {\n}\n" % n for n in range(DEFINITIONS))
@@ -86,11 +91,11 @@ class Checks:
         whole = b"".join(it + b"\n" for it in tags)
         words = ["tags", *wider, "defs.c"]
         self.expect("a tags file of 70,000", self.run(words), (0, b"", b""))
-        self.expect("the tags file of 70,000", (self.folder / "tags").read_bytes(), whole)
+        self.expect("the tags file of 70,000", self.read("tags"), whole)
         words = ["find", *wider, "1", last.decode(), "defs.c"]
         self.expect("one of 70,000", self.run(words), (0, row + b"\n", b""))
 
-    def facts(self):
+    def facts(self) -> None:
         """1,100,000 uses and as many calls in one file."""
         self.write("facts.c", b"int f(void) {\n" + b"g();\n" * LINES + b"}\n")
         lines = [b"%d g();\n" % n for n in range(2, LINES + 2)]
@@ -99,7 +104,7 @@ class Checks:
             want = b"facts.c %s " % around + (b"facts.c %s " % around).join(lines)
             self.expect(f"1,100,000 facts, field {field}", self.run(words), (0, want, b""))
 
-    def changes(self):
+    def changes(self) -> None:
         """66,000 changes of one session, taken back and done again."""
         wider = ["line", "--max-files", "8192"]
         begin = b":load a.c 2\na\n5a\n"
@@ -111,7 +116,7 @@ class Checks:
         want += [none % b"undo", *[DONE] * (CHANGES + 2), none % b"redo"]
         self.expect("66,000 changes", self.run(wider, given), (0, session(*want), b""))
 
-    def files(self):
+    def files(self) -> None:
         """5,000 files that a list names, and one more that a session loads."""
         names = [b"n%04d.c" % n for n in range(FILES)]
         for number, name in enumerate(names):
@@ -124,7 +129,7 @@ class Checks:
         want = session(rows([row]), DONE, DONE, rows(found), DONE, DONE)
         self.expect("5,000 files", self.run(words, given), (0, want, b""))
 
-    def blocks(self):
+    def blocks(self) -> None:
         """Blocks of 70,000 bytes."""
         text = b"int b(void) {\n" + b" " * (BLOCK - 17) + b"\n}\n"
         size = b"%d" % len(text)
@@ -136,7 +141,7 @@ class Checks:
 
     # ---- an editor
 
-    def editor(self):
+    def editor(self) -> None:
         """A document of 70,000 functions, a change of 70,000 bytes, and 70,000 uses."""
         text = b"".join(b"int f%d(void) {\n}\n" % n for n in range(DEFINITIONS)).decode()
         text += "int u(void) {\n" + "u();\n" * BLOCK + "}\n"
@@ -166,7 +171,9 @@ class Checks:
         )
         replies = dict(replies_in(out))
         self.expect("an editor", (status, said), (0, b""))
-        self.expect("an editor, its replies", sorted(replies), [1, 2, 3, 4, 5, 6])
+        self.expect("an editor, its replies", list(replies), [1, 2, 3, 4, 5, 6])
+        if list(replies) != [1, 2, 3, 4, 5, 6]:
+            return
         names = [it["name"] for it in replies[2]]
         want = [f"f{n}" for n in range(DEFINITIONS)] + ["u"]
         self.expect("an editor, 70,001 symbols", names, want)
@@ -181,7 +188,7 @@ class Checks:
 
     # ---- what goes wrong for another reason
 
-    def reasons(self):
+    def reasons(self) -> None:
         """Each failure has its own message, and none is want of memory."""
         self.write("a.c", b"int a;\n")
         (self.folder / "folder.c").mkdir()
@@ -220,7 +227,7 @@ def short(value) -> str:
     return text if len(text) < 400 else f"{text[:200]} .. {text[-150:]}"
 
 
-def frame(method: str, number, params) -> bytes:
+def frame(method: str, number: Optional[int], params: Optional[dict]) -> bytes:
     message = {"jsonrpc": "2.0", "method": method, "params": params}
     if number is not None:
         message["id"] = number
@@ -228,8 +235,8 @@ def frame(method: str, number, params) -> bytes:
     return b"Content-Length: %d\r\n\r\n%s" % (len(body), body)
 
 
-def replies_in(out: bytes):
-    """The replies of a server by number. Any other message fails: nothing is to be told."""
+def replies_in(out: bytes) -> Iterator[tuple]:
+    """The replies of a server by number, and any other message by its method."""
     while out:
         head, _, out = out.partition(b"\r\n\r\n")
         size = int(head.removeprefix(b"Content-Length: "))
