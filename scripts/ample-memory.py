@@ -51,8 +51,9 @@ class Checks:
         self.program, self.folder = program, folder
         self.runs = self.failed = 0
 
-    def run(self, words: list[str], given: bytes = b"") -> tuple[int, bytes, bytes]:
+    def run(self, words: list[str], given: bytes = b"", before=None) -> tuple[int, bytes, bytes]:
         how = {"input": given, "capture_output": True, "cwd": self.folder, "timeout": PATIENCE}
+        how["preexec_fn"] = before
         run = subprocess.run([self.program, *words], **how)
         return run.returncode, run.stdout, run.stderr
 
@@ -199,17 +200,20 @@ class Checks:
                 got = self.run([*words, "a.c", name])
                 want = (1, b"", cannot % (name.encode(), b"read"))
                 self.expect(f"{words[0]} {name}", got, want)
+        self.write("shut.c", b"int s;\n")
+        (self.folder / "shut.c").chmod(0)
+        got = self.run(["find", "1", "s", "shut.c"], before=as_nobody)
+        self.expect("find shut.c", got, (1, b"", cannot % (b"shut.c", b"read")))
         for name in ("none/tags", "folder.c", "a.c/tags"):
             got = self.run(["tags", "-f", name, "a.c"])
             self.expect(f"tags -f {name}", got, (1, b"", cannot % (name.encode(), b"written")))
         for name in ("none.list", "folder.c"):
             got = self.run(["tags", "--files-from", name])
             self.expect(f"--files-from {name}", got, (1, b"", cannot % (name.encode(), b"read")))
-        wrong = (["find", "9", "a", "a.c"], b"cbrowse: field not in this profile\n")
-        self.expect("find 9", self.run(wrong[0]), (2, b"", wrong[1]))
-        self.expect(
-            "find 1 ''", self.run(["find", "1", "", "a.c"]), (2, b"", b"cbrowse: no pattern\n")
-        )
+        said = b"cbrowse: field not in this profile\n"
+        self.expect("find 9", self.run(["find", "9", "a", "a.c"]), (2, b"", said))
+        said = b"cbrowse: no pattern\n"
+        self.expect("find 1 ''", self.run(["find", "1", "", "a.c"]), (2, b"", said))
         for words in (
             ["lines"],
             ["tags"],
@@ -220,6 +224,12 @@ class Checks:
             status, out, said = self.run(words)
             told = (status, out, said.startswith(b"error: "), REFUSED in said)
             self.expect(" ".join(words), told, (2, b"", True, False))
+
+
+def as_nobody() -> None:
+    """Gives up the rights of root, who may read every file."""
+    if os.geteuid() == 0:
+        os.setuid(65534)
 
 
 def short(value) -> str:
@@ -253,6 +263,7 @@ def main() -> int:
     )
     program = str(pathlib.Path(parser.parse_args().program).resolve())
     with tempfile.TemporaryDirectory() as room:
+        os.chmod(room, 0o755)  # so that a run without the rights of root finds it
         checks = Checks(program, pathlib.Path(room).resolve())
         for check in (
             checks.definitions,
