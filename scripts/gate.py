@@ -8,7 +8,9 @@
 3. The program that it built is run on words, files and failing devices (whole-program.py).
 4. Editors have sessions with its language server (editor-sessions.py).
 5. Each growth of memory is refused to it in turn (each-growth-refused.py).
-6. The completions for shells are those of its words (completions.py).
+6. It runs past round numbers with ample memory, and says nowhere that there is none
+   (ample-memory.py).
+7. The completions for shells are those of its words (completions.py).
 
 At the end it says how long each step took, and how many checks passed and failed; the exit status
 is 1 where one failed.
@@ -32,6 +34,7 @@ STEPS = (
     ("the whole program", ["scripts/whole-program.py", str(PROGRAM)]),
     ("sessions of editors", ["scripts/editor-sessions.py", str(PROGRAM)]),
     ("each growth refused", ["scripts/each-growth-refused.py", str(PROGRAM)]),
+    ("ample memory", ["scripts/ample-memory.py", str(PROGRAM)]),
     ("the completions", ["scripts/completions.py", "--check", str(PROGRAM)]),
 )
 BYTES_OF_A_TASK = 4_500_000_000

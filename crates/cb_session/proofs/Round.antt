@@ -16,7 +16,8 @@ use Rattle.cb_session.specs.Reading.{IsReadFault, IsUnread, Reads}
 use Rattle.cb_session.specs.Requests.{Request, query, change, undo, redo, rebuild, tags_file}
 use Rattle.cb_session.specs.Requests.{listing, marks, stack, refused, nothing, quit, overlong}
 use Rattle.cb_session.specs.Serving.{Does, Leaves}
-use Rattle.cb_session.specs.steps.Rounds.{EndsRound, IsMoved, LeavesRound, ReadsRound, is_unread}
+use Rattle.cb_session.specs.steps.Rounds.{EndsRound, IsBlocked, IsMoved, LeavesRound, ReadsRound}
+use Rattle.cb_session.specs.steps.Rounds.{is_unread}
 use Rattle.cb_session.specs.Output.{prompt, outcome, exchange}
 use Rattle.cb_session.specs.States.{Leads, State}
 use Rattle.cb_tags.specs.Writing.{AppendsPrefix}
@@ -60,6 +61,7 @@ Round-unprompted f s feed old new r fault e w p = (
   passed_on false f s s feed old new r Write (subst (λ k. IsErrAnd r (λ x. x ≡ k)) w e) (
     AppendsPrefix-more old.bytes new.bytes prompt (outcome false s.timeline f.request).reply p,
     inl refl,
+    tt,
   ),
 )
 
@@ -100,14 +102,26 @@ unmoved f s feed Memory h = inl refl
 unmoved f s feed LongLine h = overlong_leads s f.request h
 unmoved f s feed ManyLines h = absurd h
 
+blocked : (f : First) (s : State) (feed : Reader) (old new : Writer) (fault : Reason)
+    → Reads f feed (Err fault) → Appends old.bytes new.bytes prompt
+    → IsBlocked f.request s s old new (Fault fault)
+blocked f s feed old new Read h p = tt
+blocked f s feed old new Write h p = absurd h
+blocked f s feed old new Memory h p = (h, refl, p)
+blocked f s feed old new LongLine h p = tt
+blocked f s feed old new ManyLines h p = absurd h
+
 pub Round-unread : (f : First) (s : State) (feed : Reader) (old new : Writer)
     (r : Result (Option Ended) Reason) (fault : Reason)
     → IsErrAnd r (λ e. e ≡ fault) → Reads f feed (Err fault) → Appends old.bytes new.bytes prompt
     → (out_of_memory : Bool) × LeavesRound out_of_memory f s s feed old new r
 Round-unread f s feed old new r fault e h p = (
   false,
-  passed_on false f s s feed old new r fault e
-      (unread f s feed old new fault h p, unmoved f s feed fault h),
+  passed_on false f s s feed old new r fault e (
+    unread f s feed old new fault h p,
+    unmoved f s feed fault h,
+    blocked f s feed old new fault h p,
+  ),
 )
 
 -- the reply could not be written
@@ -124,13 +138,14 @@ Round-unanswered A f s next feed old mid new r fault request e same p d =
       passed_on d.0 f s next feed old new r Write (subst (λ k. IsErrAnd r (λ x. x ≡ k)) d.1.1.1 e) (
         subst (λ x. AppendsPrefix old.bytes new.bytes (exchange d.0 s.timeline x)) same text,
         inr (subst (λ x. Leads d.0 s x next) same d.1.0),
+        tt,
       ),
     )
 
 -- no request ends a run by a read fault
-cut_or_not : (b : Bool) → (if b then Some Cut else None) ≡ Some (Fault Read) → ⊥
-cut_or_not true e = cc
-cut_or_not false e = cc
+cut_or_not : (fault : Reason) (b : Bool) → (if b then Some Cut else None) ≡ Some (Fault fault) → ⊥
+cut_or_not fault true e = cc
+cut_or_not fault false e = cc
 
 ends_unread : (e : Request) → ending_of e ≡ Some (Fault Read) → ⊥
 ends_unread (query field pattern) h = cc
@@ -142,10 +157,37 @@ ends_unread (tags_file format) h = cc
 ends_unread listing h = cc
 ends_unread marks h = cc
 ends_unread stack h = cc
-ends_unread (refused r) h = cut_or_not (is_cut r) h
+ends_unread (refused r) h = cut_or_not Read (is_cut r) h
 ends_unread nothing h = cc
 ends_unread quit h = cc
 ends_unread overlong h = cc
+
+-- and none by want of memory
+ends_in_memory : (e : Request) → ending_of e ≡ Some (Fault Memory) → ⊥
+ends_in_memory (query field pattern) h = cc
+ends_in_memory (change s) h = cc
+ends_in_memory undo h = cc
+ends_in_memory redo h = cc
+ends_in_memory rebuild h = cc
+ends_in_memory (tags_file format) h = cc
+ends_in_memory listing h = cc
+ends_in_memory marks h = cc
+ends_in_memory stack h = cc
+ends_in_memory (refused r) h = cut_or_not Memory (is_cut r) h
+ends_in_memory nothing h = cc
+ends_in_memory quit h = cc
+ends_in_memory overlong h = cc
+
+not_blocked : (e : Request) (s next : State) (old new : Writer) (ended : Ended)
+    → ending_of e ≡ Some ended → IsBlocked e s next old new ended
+not_blocked e s next old new (Fault Read) is = tt
+not_blocked e s next old new (Fault Write) is = tt
+not_blocked e s next old new (Fault Memory) is = absurd (ends_in_memory e is)
+not_blocked e s next old new (Fault LongLine) is = tt
+not_blocked e s next old new (Fault ManyLines) is = tt
+not_blocked e s next old new Done is = tt
+not_blocked e s next old new Cut is = tt
+not_blocked e s next old new (Operand place why) is = tt
 
 -- what was answered has led the session on
 moved_whole : (out_of_memory : Bool) (s : State) (e : Request) (ended : Ended) (next : State)
@@ -189,6 +231,7 @@ Round-answered A f s next feed old mid new (Some ended) x request same left e p 
             (subst (λ y. Appends old.bytes new.bytes (exchange d.0 s.timeline y)) same text),
         moved_whole d.0 s f.request ended next (sym (e ∙ ap ending_of same))
             (subst (λ y. Leads d.0 s y next) same d.1.0),
+        not_blocked f.request s next old new ended (sym (e ∙ ap ending_of same)),
       ),
     )
 

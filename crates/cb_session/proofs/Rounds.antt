@@ -1,9 +1,10 @@
 -- A run, round by round.
 use Rattle.std.proofs.Common.{◌≡◌, ◌⊎◌, ℕ, zero, suc, Bool, true, false, List, [], ◌∷◌, ◌++◌}
 use Rattle.std.proofs.Common.{Option, Some, None, Ok}
-use Rattle.std.proofs.Common.{refl, sym, ap, ◌∙◌, subst, append_assoc, append-nil, ⊎_elim}
+use Rattle.std.proofs.Common.{refl, sym, ap, ◌∙◌, subst, append_assoc, append-nil, ⊎_elim, inl, inr}
 use Rattle.std.specs.Io.KnownBytes.{Appends, Keeps}
-use Rattle.std.proofs.KnownBytes.{Appends-trans, Appends-nil, Appends-kept}
+use Rattle.std.proofs.KnownBytes.{Appends-trans, Appends-nil, Appends-kept, Keeps-refl, Keeps-trans}
+use Rattle.std.specs.Prelude.{IsTrue}
 use Rattle.cb_session.specs.declared.input.Ended.{Ended}
 use Rattle.cb_session.specs.declared.input.Ended.TheVariants.{Done, Cut, Fault, Operand}
 use Rattle.cb_session.specs.declared.input.Fault.TheVariants.{Read, Write, Memory, LongLine}
@@ -14,10 +15,11 @@ use Rattle.cb_tags.specs.Readers.{Reader, WhateverFollows, leaving}
 use Rattle.cb_session.specs.Inputs.{First, Inputs, first, inputs, ending_of, begin_with}
 use Rattle.cb_session.specs.Requests.{Request}
 use Rattle.cb_session.specs.Serving.{FirstLeadTo, HandsOn, IsCutShort, IsLeft, Leaves, LeavesRun}
-use Rattle.cb_session.specs.Serving.{LeavesSession}
+use Rattle.cb_session.specs.Serving.{LeavesSession, StopsAtBlock, StopsForMemory}
 use Rattle.cb_session.specs.States.{LeadTo, Leads, State}
 use Rattle.cb_session.specs.steps.Rounds.{EndsRound, LeavesRound, is_unread}
-use Rattle.cb_session.specs.Output.{outcome, exchange, output}
+use Rattle.cb_session.specs.Output.{outcome, exchange, output, prompt}
+use Rattle.cb_session.specs.Reading.{has_block}
 use Rattle.cb_tags.proofs.Follows.{Some-same, Follows-nothing, Follows-so, Follows-then}
 use Rattle.cb_tags.specs.Writing.{AppendsPrefix}
 use Rattle.cb_tags.proofs.Prefixes.{AppendsPrefix-more, AppendsPrefix-after, AppendsPrefix-whole}
@@ -297,6 +299,32 @@ Rounds-all lines limit bytes start old left t feed out out_of_memory ended next 
     (sym (r.are ∙ ap (λ i. r.done ++ i.requests) (inputs-last left limit r.rest ended e)))
     (Rounds-moved lines limit bytes start old left t feed out out_of_memory next r moved)
 
+-- memory is refused for the block of the next input
+Rounds-blocked : (lines limit : ℕ) (bytes : List ℕ) (start : State) (old : Writer) (left : ℕ)
+    (t : State) (feed : Reader) (out new : Writer) (out_of_memory : Bool) (next : State)
+    → (r : Rounds lines limit bytes start old (suc left) t feed out)
+    → IsTrue (has_block (first limit r.rest).request) → next ≡ t
+    → Appends out.bytes new.bytes prompt
+    → StopsAtBlock (r.refusals ++ out_of_memory ∷ []) start next
+    (inputs lines limit bytes).requests old new
+Rounds-blocked lines limit bytes start old left t feed out new out_of_memory next r block same h =
+    let ms = r.refusals ++ out_of_memory ∷ [] in
+    let b = inputs-begin left limit r.rest in
+    let said : output ms start.timeline r.done ≡ r.so_far =
+    ap (output ms start.timeline) (sym (append-nil r.done)) ∙ r.said (out_of_memory ∷ []) []
+    ∙ ap (λ l. r.so_far ++ l) (output-nil (out_of_memory ∷ []) t.timeline)
+    ∙ append-nil r.so_far in (
+      r.done,
+      b.0,
+      (first limit r.rest).request,
+      r.are ∙ ap (λ es. r.done ++ es) b.1,
+      block,
+      subst (λ l. LeadTo ms start l next) (append-nil r.done)
+          (r.led (out_of_memory ∷ []) [] next (led-nil (out_of_memory ∷ []) t next same)),
+      subst (λ l. Appends old.bytes new.bytes (l ++ prompt)) (sym said)
+          (Appends-trans old.bytes out.bytes new.bytes r.so_far prompt r.wrote h),
+    )
+
 -- a round in which the run ends
 pub Rounds-end : (lines limit : ℕ) (bytes : List ℕ) (start : State) (old : Writer) (left : ℕ)
     (t next : State) (feed after : Reader) (out new : Writer) (out_of_memory : Bool) (ended : Ended)
@@ -308,18 +336,22 @@ Rounds-end lines limit bytes start old left t next feed after out new
       r.refusals ++ out_of_memory ∷ [],
       Rounds-prefix lines limit bytes start old left t feed out new out_of_memory r h.0,
       Rounds-unmoved lines limit bytes start old left t feed out out_of_memory next r h.1,
+      tt,
     )
 Rounds-end lines limit bytes start old left t next feed after out new
     out_of_memory (Fault Write) r h = (
       r.refusals ++ out_of_memory ∷ [],
       Rounds-prefix lines limit bytes start old left t feed out new out_of_memory r h.0,
       Rounds-first lines limit bytes start old left t feed out out_of_memory next r h.1,
+      tt,
     )
 Rounds-end lines limit bytes start old left t next feed after out new
     out_of_memory (Fault Memory) r h = (
       r.refusals ++ out_of_memory ∷ [],
       Rounds-prefix lines limit bytes start old left t feed out new out_of_memory r h.0,
       Rounds-first lines limit bytes start old left t feed out out_of_memory next r h.1,
+      inr (Rounds-blocked lines limit bytes start old left t feed out new out_of_memory next r
+          h.2.0 h.2.1 h.2.2),
     )
 Rounds-end lines limit bytes start old left t next feed after out new out_of_memory
     (Fault LongLine) r h =
@@ -330,6 +362,7 @@ Rounds-end lines limit bytes start old left t next feed after out new out_of_mem
       (last.ending, last.wrote),
       Rounds-all lines limit bytes start old left t feed out out_of_memory
           (Fault LongLine) next r h.0.0 h.1,
+      tt,
     )
 Rounds-end lines limit bytes start old left t next feed after out new
     out_of_memory (Fault ManyLines) r h = (
@@ -338,6 +371,7 @@ Rounds-end lines limit bytes start old left t next feed after out new
           out_of_memory (Fault ManyLines) r h.0.0 h.0.1 h.0.2,
       Rounds-all lines limit bytes start old left t feed out out_of_memory
           (Fault ManyLines) next r h.0.0 h.1,
+      tt,
     )
 Rounds-end lines limit bytes start old left t next feed after out new
     out_of_memory Done r h = (
@@ -345,6 +379,7 @@ Rounds-end lines limit bytes start old left t next feed after out new
       Rounds-whole lines limit bytes start old left t feed after out new
           out_of_memory Done r h.0.0 h.0.1 h.0.2,
       Rounds-all lines limit bytes start old left t feed out out_of_memory Done next r h.0.0 h.1,
+      tt,
     )
 Rounds-end lines limit bytes start old left t next feed after out new
     out_of_memory Cut r h = (
@@ -352,6 +387,7 @@ Rounds-end lines limit bytes start old left t next feed after out new
       Rounds-whole lines limit bytes start old left t feed after out new
           out_of_memory Cut r h.0.0 h.0.1 h.0.2,
       Rounds-all lines limit bytes start old left t feed out out_of_memory Cut next r h.0.0 h.1,
+      tt,
     )
 Rounds-end lines limit bytes start old left t next feed after out new
     out_of_memory (Operand place why) r h = (
@@ -360,6 +396,7 @@ Rounds-end lines limit bytes start old left t next feed after out new
           out_of_memory (Operand place why) r h.0.0 h.0.1 h.0.2,
       Rounds-all lines limit bytes start old left t feed out out_of_memory
           (Operand place why) next r h.0.0 h.1,
+      tt,
     )
 
 -- no line is left
@@ -382,6 +419,7 @@ Rounds-out lines limit bytes start old t feed out r =
       subst (λ es. LeadTo (r.refusals ++ []) start es t)
           (sym (r.are ∙ ap (λ i. r.done ++ i.requests) none))
           (r.led [] [] t (led-nil [] t t refl)),
+      tt,
     )
 
 -- a round in a run: what it leaves is known for all bytes that the feed may have
@@ -475,6 +513,7 @@ LeavesSession-none lines limit bytes start out feed = (
   [],
   ([], output [] start.timeline (inputs lines limit bytes).requests, refl, Appends-nil out.bytes),
   ([], (inputs lines limit bytes).requests, refl, led-nil [] start start refl),
+  inl (refl, Keeps-refl out.bytes),
 )
 
 -- and so over whatever follows what was read
@@ -525,6 +564,7 @@ LeavesSession-unflushed i start next feed old mid new ended kept run =
       run.0,
       (p.0, p.1, p.2, Appends-kept old.bytes mid.bytes new.bytes p.0 p.3 kept),
       IsLeft-first run.0 start i.requests ended next run.2,
+      tt,
     )
 
 -- a last flush keeps what was written
@@ -548,6 +588,30 @@ Leaves-kept text meant rest feed old mid new Cut kept p =
 Leaves-kept text meant rest feed old mid new (Operand place why) kept p =
     (p.0, p.1, Appends-kept old.bytes mid.bytes new.bytes text p.2 kept)
 
+Stops-kept : (refusals : List Bool) (start next : State) (es : List Request) (old mid new : Writer)
+    (ended : Ended) → Keeps mid.bytes new.bytes
+    → StopsForMemory refusals start next es old mid ended
+    → StopsForMemory refusals start next es old new ended
+Stops-kept refusals start next es old mid new (Fault Read) kept p = tt
+Stops-kept refusals start next es old mid new (Fault Write) kept p = tt
+Stops-kept refusals start next es old mid new (Fault Memory) kept p =
+    ⊎_elim (λ q. inl (q.0, Keeps-trans old.bytes mid.bytes new.bytes q.1 kept))
+    (λ q. inr (
+      q.0,
+      q.1,
+      q.2,
+      q.3,
+      q.4,
+      q.5,
+      Appends-kept old.bytes mid.bytes new.bytes (output refusals start.timeline q.0 ++ prompt)
+          q.6 kept,
+    )) p
+Stops-kept refusals start next es old mid new (Fault LongLine) kept p = tt
+Stops-kept refusals start next es old mid new (Fault ManyLines) kept p = tt
+Stops-kept refusals start next es old mid new Done kept p = tt
+Stops-kept refusals start next es old mid new Cut kept p = tt
+Stops-kept refusals start next es old mid new (Operand place why) kept p = tt
+
 pub LeavesSession-flushed : (i : Inputs) (start next : State) (feed : Reader) (old mid new : Writer)
     (ended : Ended) → Keeps mid.bytes new.bytes → LeavesSession i start next feed old mid ended
     → LeavesSession i start next feed old new ended
@@ -556,6 +620,7 @@ LeavesSession-flushed i start next feed old mid new ended kept run = (
   Leaves-kept (output run.0 start.timeline i.requests) (Some i.ending) i.rest feed old
       mid new ended kept run.1,
   run.2,
+  Stops-kept run.0 start next i.requests old mid new ended kept run.3,
 )
 
 -- what a flush leaves is handed on

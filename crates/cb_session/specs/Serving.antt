@@ -1,6 +1,7 @@
 -- What a run leaves.
-use Rattle.std.specs.Prelude.{◌≡◌, ◌++◌, ℕ, Bool, true, false, List, Option, None, Some, Result}
-use Rattle.std.specs.Io.KnownBytes.{Appends}
+use Rattle.std.specs.Prelude.{◌≡◌, ◌⊎◌, ◌∷◌, ◌++◌, ℕ, Bool, true, false, List, Option, None, Some}
+use Rattle.std.specs.Prelude.{IsTrue, Result}
+use Rattle.std.specs.Io.KnownBytes.{Appends, Keeps}
 use Rattle.cb_tags.specs.declared.feed.Stage.TheVariants.{Failed}
 use Rattle.cb_session.specs.declared.input.Ended.{Ended}
 use Rattle.cb_session.specs.declared.input.Ended.TheVariants.{Fault, Operand}
@@ -10,6 +11,7 @@ use Rattle.cb_tags.specs.Writers.{Writer}
 use Rattle.cb_tags.specs.Readers.{Reader, HasRead, HoldsOut, WhateverFollows}
 use Rattle.cb_session.specs.Inputs.{HoldWhole, Inputs, inputs}
 use Rattle.cb_session.specs.Output.{outcome, output, prompt}
+use Rattle.cb_session.specs.Reading.{has_block}
 use Rattle.cb_session.specs.Requests.{Request}
 use Rattle.cb_session.specs.States.{LeadTo, Leads, State}
 use Rattle.cb_tags.specs.Writing.{AppendsPrefix}
@@ -21,7 +23,8 @@ abbrev pub Does : {A : Type 0} → Bool → State → Request → State → Writ
 Does out_of_memory s e next old new result =
     Leads out_of_memory s e next × Puts old new result (outcome out_of_memory s.timeline e).reply
 
--- after a fault of a device or of memory a prefix of the text is written; else the whole text is,
+-- after a fault of a device or of memory a prefix of the text is written (of memory, the one that
+-- `StopsForMemory` says); else the whole text is,
 -- the ending is the one meant, and the bytes that are left are still to be read; of a line that is
 -- too long for the run they are not known
 abbrev pub Leaves : List ℕ → Option Ended → List ℕ → Reader → Writer → Writer → Ended → Type 0
@@ -46,13 +49,30 @@ IsLeft refusals s es (Fault Write) next = FirstLeadTo refusals s es next
 IsLeft refusals s es (Fault Memory) next = FirstLeadTo refusals s es next
 IsLeft refusals s es ended next = LeadTo refusals s es next
 
+-- memory was refused for the block of an input: those before it are answered, and behind their
+-- replies there is its prompt alone
+abbrev pub StopsAtBlock : List Bool → (s next : State) → List Request → Writer → Writer → Type 0
+StopsAtBlock refusals s next es old new =
+    (done later : List Request) × (e : Request) × (es ≡ done ++ e ∷ later) × IsTrue (has_block e)
+    × LeadTo refusals s done next
+    × Appends old.bytes new.bytes (output refusals s.timeline done ++ prompt)
+
+-- a run that memory ends has stopped at a block, or before its first prompt
+abbrev pub StopsForMemory : List Bool → (s next : State) → List Request → Writer → Writer → Ended
+    → Type 0
+StopsForMemory refusals s next es old new (Fault Memory) =
+    ((next ≡ s) × Keeps old.bytes new.bytes) ⊎ StopsAtBlock refusals s next es old new
+StopsForMemory refusals s next es old new ended = Unit {0}
+
 -- a run over these inputs, for some list that says which of them memory refused: its output, its
--- ending, no byte read behind its last request, and where it leaves the session
+-- ending, no byte read behind its last request, where it leaves the session, and where it stops if
+-- memory ends it
 abbrev pub LeavesSession : Inputs → (s next : State) → Reader → Writer → Writer → Ended → Type 0
 LeavesSession i s next feed old new ended =
     (refusals : List Bool)
     × Leaves (output refusals s.timeline i.requests) (Some i.ending) i.rest feed old new ended
     × IsLeft refusals s i.requests ended next
+    × StopsForMemory refusals s next i.requests old new ended
 
 -- the same, wherever it leaves the session
 abbrev pub LeavesRun : Inputs → State → Reader → Writer → Writer → Ended → Type 0

@@ -1,6 +1,6 @@
 -- What a round of a run leaves, and the replies to moves.
 use Rattle.std.specs.Prelude.{◌≡◌, ◌⊎◌, Bool, List, ℕ, Option, None, Some, Result, Ok, Err, true}
-use Rattle.std.specs.Prelude.{false}
+use Rattle.std.specs.Prelude.{IsTrue, false}
 use Rattle.std.specs.Io.KnownBytes.{Appends}
 use Rattle.cb_desk.specs.declared.change.Refusal.{Refusal}
 use Rattle.cb_session.specs.declared.input.Ended.{Ended}
@@ -11,7 +11,7 @@ use Rattle.cb_session.specs.Requests.{Request}
 use Rattle.cb_tags.specs.declared.feed.Stage.TheVariants.{Failed}
 use Rattle.cb_tags.specs.Readers.{Reader, WhateverFollows}
 use Rattle.cb_session.specs.Inputs.{First, ending_of, first}
-use Rattle.cb_session.specs.Reading.{IsUnread}
+use Rattle.cb_session.specs.Reading.{IsUnread, has_block}
 use Rattle.cb_session.specs.Serving.{Leaves}
 use Rattle.cb_session.specs.Output.{refused_line, exchange, prompt}
 use Rattle.cb_session.specs.States.{Leads, State}
@@ -40,12 +40,19 @@ IsMoved out_of_memory s e (Fault Write) next = (next ≡ s) ⊎ Leads out_of_mem
 IsMoved out_of_memory s e (Fault Memory) next = (next ≡ s) ⊎ Leads out_of_memory s e next
 IsMoved out_of_memory s e ended next = Leads out_of_memory s e next
 
+-- a round that memory ends has prompted for a request with a block, and done nothing else
+abbrev pub IsBlocked : Request → (s next : State) → Writer → Writer → Ended → Type 0
+IsBlocked e s next old new (Fault Memory) =
+    IsTrue (has_block e) × (next ≡ s) × Appends old.bytes new.bytes prompt
+IsBlocked e s next old new ended = Unit {0}
+
 -- a round that ends the run
 abbrev pub EndsRound : Bool → First → (s next : State) → Reader → Writer → Writer → Ended → Type 0
 EndsRound out_of_memory f s next feed old new ended =
     Leaves (exchange out_of_memory s.timeline f.request) (ending_of f.request) f.rest
     feed old new ended
     × IsMoved out_of_memory s f.request ended next
+    × IsBlocked f.request s next old new ended
 
 -- one round: the exchange of a prompt and the reply to the first input, and the ending of the run
 -- if it has one

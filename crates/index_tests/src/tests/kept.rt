@@ -59,6 +59,9 @@ fn keep_version(alloc: Global, shelf: &mut Shelf, text: &[u8], room: &Room) -> R
         Err(_) => return Err(Fail::from("no memory")),
     }
     let version = version_of(alloc, text)?;
+    if version.source().bytes() != text || version.facts().defs().is_empty() {
+        return Err(Fail::from("another text"));
+    }
     if version.profile() != shelf.archive().profile() {
         return Err(Fail::from("another profile"));
     }

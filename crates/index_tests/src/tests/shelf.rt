@@ -193,6 +193,69 @@ fn show_and_hide(rt: &impl Abort, alloc: Global, shelf: &mut Shelf) -> Result<()
     shows_both(rt, shelf)
 }
 
+/// The names and texts of what is shown, by the numbers of both, and from a name on.
+fn lends_what_is_shown(rt: &impl Abort, shelf: &Shelf) -> Result<(), Fail> {
+    let archive = shelf.archive();
+    assert_eq!(rt; shelf.shown().len(), 2);
+    let later = shelf.shown().from_name(archive, b"n");
+    let Some((one, rest)) = later.split_first() else {
+        return Err(Fail::from("none is shown"));
+    };
+    assert_eq!(rt; archive.name(one.name), b"z/b.c".as_slice());
+    assert!(rt; rest.split_first().is_none());
+    if one.version as usize >= archive.version_count() {
+        return Err(Fail::from("no such version"));
+    }
+    assert_eq!(rt; archive.source(one.version).bytes(), FIRST);
+    assert_eq!(rt; archive.facts(one.version).calls().len(), 3);
+    let spot = shelf.defs(b"add").next_spot();
+    assert!(rt;
+        matches!(spot, Some(spot) if spot.name() == b"add".as_slice() && spot.row().line == 4)
+    );
+    Ok(())
+}
+
+/// The include of the first file, and the three uses of `x`, whose rows are equal.
+fn tells_equal_rows_once(rt: &impl Abort, shelf: &Shelf) -> Result<(), Fail> {
+    let mut includes = shelf.includes();
+    assert!(rt;
+        matches!(includes.next(), Some(row) if row.name == b"a.h".as_slice() && row.line == 1)
+    );
+    assert!(rt; includes.next().is_none());
+    let mut spots = shelf.facts(FactKind::Uses, b"x").spots();
+    assert_eq!(rt; spots.row_count(), 1u128);
+    assert!(rt; matches!(spots.next(), Some(spot) if spot.row().line == 2));
+    assert!(rt; spots.next().is_none());
+    Ok(())
+}
+
+/// A version that is not shown goes; the other one is shown as before.
+fn keeps_what_is_shown(rt: &impl Abort, shelf: &mut Shelf, second: Shown) {
+    shelf.hide(second.name);
+    shelf.compact();
+    assert_eq!(rt; shelf.archive().version_count(), 1);
+    shows_files(rt, shelf, &[b"z/b.c".as_slice()]);
+}
+
+fn lend_and_compact(rt: &impl Abort, alloc: Global, shelf: &mut Shelf) -> Result<(), Fail> {
+    let second = keep(alloc, shelf, b"m.c", OTHER)?;
+    let first = keep(alloc, shelf, b"z/b.c", FIRST)?;
+    show(shelf, second)?;
+    show(shelf, first)?;
+    lends_what_is_shown(rt, shelf)?;
+    tells_equal_rows_once(rt, shelf)?;
+    keeps_what_is_shown(rt, shelf, second);
+    Ok(())
+}
+
+#[test]
+fn compact_lets_go_what_is_not_shown(rt: HostRuntime) -> Result<(), Fail> {
+    let mut shelf = Shelf::new(rt.alloc(), Profile::all_by(Rules::Standard));
+    shelf.truncate(0, 0);
+    assert_eq!(rt; shelf.archive().name_count(), 0);
+    lend_and_compact(&rt, rt.alloc(), &mut shelf)
+}
+
 #[test]
 fn show_and_hide_change_what_is_shown(rt: HostRuntime) -> Result<(), Fail> {
     let mut shelf = Shelf::new(rt.alloc(), Profile::all_by(Rules::Standard));

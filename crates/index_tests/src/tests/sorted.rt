@@ -2,7 +2,7 @@
 ghost use Rattle.std.specs.Prelude.{◌≡◌, []};
 
 use super::kept::keep_in;
-use cb_index::{Archive, DefsByName, DefsByTagName, Row, RowOrder, Shown, Sorted};
+use cb_index::{Archive, CallsByCaller, DefsByName, DefsByTagName, Row, RowOrder, Shown, Sorted};
 use cb_scan::{Profile, Rules};
 use std::alloc::Global;
 use std::cmp::Ordering;
@@ -29,6 +29,15 @@ fn has_one_add(rt: &impl Abort, archive: &Archive, index: &Sorted<DefsByName>) -
     Ok(())
 }
 
+/// No row of `add` is left.
+fn has_none(rt: &impl Abort, archive: &Archive, index: &Sorted<DefsByName>) -> Result<(), Fail> {
+    if !index.is_in_order(archive) {
+        return Err(Fail::from("out of order"));
+    }
+    assert!(rt; index.range(archive, b"add").next().is_none());
+    Ok(())
+}
+
 /// Four definitions are put in room for four, and taken away.
 fn put_and_take(
     rt: &impl Abort,
@@ -46,7 +55,10 @@ fn put_and_take(
         return Err(Fail::from("no room"));
     }
     index.put_all(archive, one);
-    has_one_add(rt, archive, index)
+    has_one_add(rt, archive, index)?;
+    index.take_version(archive, one);
+    assert_eq!(rt; index.count(archive, one.version), 4);
+    has_none(rt, archive, index)
 }
 
 fn keep_and_put(rt: &impl Abort, alloc: Global, archive: &mut Archive) -> Result<(), Fail> {
@@ -58,6 +70,8 @@ fn keep_and_put(rt: &impl Abort, alloc: Global, archive: &mut Archive) -> Result
 #[test]
 fn range_gives_the_rows_of_a_key(rt: HostRuntime) -> Result<(), Fail> {
     let mut archive = Archive::new(rt.alloc(), Profile::all_by(Rules::Standard));
+    archive.truncate(0, 0);
+    assert_eq!(rt; archive.version_count(), 0);
     keep_and_put(&rt, rt.alloc(), &mut archive)
 }
 
@@ -70,6 +84,9 @@ fn orders_differ(rt: &impl Abort, archive: &Archive) {
     assert!(rt; <DefsByName as RowOrder>::compare_key(archive, b"maim", main) == Ordering::Less);
     assert!(rt; <DefsByTagName as RowOrder>::compare(archive, main, twice) == Ordering::Less);
     assert!(rt; <DefsByTagName as RowOrder>::compare_key(archive, b"Mb", main) == Ordering::Equal);
+    assert_eq!(rt; <DefsByTagName as RowOrder>::items(archive, 0), 4);
+    assert_eq!(rt; <CallsByCaller as RowOrder>::items(archive, 0), 3);
+    assert_eq!(rt; <CallsByCaller as RowOrder>::items(archive, 1), 0);
 }
 
 fn keep_and_compare(rt: &impl Abort, alloc: Global, archive: &mut Archive) -> Result<(), Fail> {

@@ -1,4 +1,3 @@
-use Rattle.std.proofs.Common.{Ok}
 use Rattle.cb_session.specs.Inputs.{first}
 use Rattle.cb_session.specs.Models.{request_of}
 use Rattle.cb_session.proofs.Round.{Round-unprompted, Round-unread, Round-unanswered}
