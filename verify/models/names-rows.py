@@ -4,7 +4,7 @@
     verify/models/names-rows.py
 
 The texts, the questions and the answers are in `names-rows.txt`, which tells their form. What
-`names_model.py` and `reach_model.py` answer has to be the same. Each difference is told, and the
+`names_model.py` and `reach_model.py` answer has to be the same. Each difference is printed, and the
 exit status is 1 if there is one.
 """
 
