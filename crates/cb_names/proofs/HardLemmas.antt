@@ -51,12 +51,12 @@ farther_is None last i = sym (or_same (reaches last i))
 farther_is (Some e) None i = refl
 farther_is (Some e) (Some l) i = farther_some e l i
 
-module _ (xs : List Item) where
-  pub range_more : (n : ℕ) → range_with_len 0 (n + 1) ≡ range_with_len 0 n ++ n ∷ []
-  range_more n =
-      sym (map-id (range_with_len 0 (n + 1))) ∙ map-range_with_len_more (λ i. i) 0 n n (omega arith)
-      ∙ ap (λ l. l ++ n ∷ []) (map-id (range_with_len 0 n))
+pub range_more : (n : ℕ) → range_with_len 0 (n + 1) ≡ range_with_len 0 n ++ n ∷ []
+range_more n =
+    sym (map-id (range_with_len 0 (n + 1))) ∙ map-range_with_len_more (λ i. i) 0 n n (omega arith)
+    ∙ ap (λ l. l ++ n ∷ []) (map-id (range_with_len 0 n))
 
+module _ (xs : List Item) where
   pub last_more : (n : ℕ) (last : Option ℕ) → ((i : ℕ) → list_any (holds xs i) (range_with_len 0 n) ≡ reaches last i)
       → (i : ℕ) → list_any (holds xs i) (range_with_len 0 (n + 1)) ≡ reaches (farther (hard_end xs n) last) i
   last_more n last is i =

@@ -14,14 +14,20 @@ use Rattle.cb_names.specs.declared.word.Item.{Item}
 use Rattle.cb_names.specs.Braces.{is_name_at}
 use Rattle.cb_names.specs.Functions.{IsItemOf, before, extent, head_before, own_items}
 use Rattle.cb_names.specs.HardAttributes.{is_left_out, kept_at}
-use Rattle.cb_names.specs.Labels.{follows_goto, is_same, label_named, label_of, names_label, span, spans}
+use Rattle.cb_names.specs.Labels.{follows_goto, is_same, label_named, label_of, label_use, names_label}
+use Rattle.cb_names.specs.Locals.{uses_where}
+use Rattle.cb_names.specs.declared.local.LocalUse.{LocalUse}
 use Rattle.cb_names.specs.Pairs.{at}
 use Rattle.cb_names.specs.Statements.{is_label, is_lone_colon, starts}
 use Rattle.cb_names.specs.Tables.{IsTable}
 use Rattle.cb_names.specs.Words.{item_of}
-use Rattle.cb_names.specs.steps.Labelling.{defines, is_label_by, names_label_by, uses}
+use Rattle.cb_names.specs.steps.Labelling.{defines, is_label_by, names_label_by, uses, uses_by}
 use Rattle.cb_names.proofs.HardLemmas.{range_more}
 use Rattle.cb_scan.proofs.WithinLemmas.{all-append, all-drop, all-take}
+
+map-cond : (f : ℕ → LocalUse) (b : Bool) (a : ℕ) (l : List ℕ) → map f (cond b (a ∷ l) l) ≡ cond b (f a ∷ map f l) (map f l)
+map-cond f true a l = refl
+map-cond f false a l = refl
 
 -- ---- tests of indices in turn
 pub range_first : (j n : ℕ) → j < n → range_with_len j (n - j) ≡ j ∷ range_with_len (j + 1) (n - (j + 1))
@@ -48,25 +54,29 @@ module _ (p q : ℕ → Bool) where
       (λ i. cond (same a (omega arith) (omega arith) i) (Some a)
       (find_same (a + 1) n (λ j le less. same j (omega (arith, le)) (omega (arith, less))) i))
 
-  pub filter_same : (a n : ℕ) → ((j : ℕ) → a ≤ j → j < a + n → p j ≡ q j)
-      → filter p (range_with_len a n) ≡ filter q (range_with_len a n)
-  filter_same a zero same = refl
-  filter_same a (suc n) same =
-      (λ i. cond (same a (omega arith) (omega arith) i)
-      (a ∷ filter_same (a + 1) n (λ j le less. same j (omega (arith, le)) (omega (arith, less))) i)
-      (filter_same (a + 1) n (λ j le less. same j (omega (arith, le)) (omega (arith, less))) i))
+  -- nor does it matter what a test refuses
+  pub uses_same_by : (f g : ℕ → LocalUse) (a n : ℕ)
+      → ((j : ℕ) → a ≤ j → j < a + n → p j ≡ q j) → ((j : ℕ) → a ≤ j → j < a + n → f j ≡ g j)
+      → map f (filter p (range_with_len a n)) ≡ map g (filter q (range_with_len a n))
+  uses_same_by f g a zero same alike = refl
+  uses_same_by f g a (suc n) same alike =
+      let rest = uses_same_by f g (a + 1) n (λ j le less. same j (omega (arith, le)) (omega (arith, less)))
+      (λ j le less. alike j (omega (arith, le)) (omega (arith, less))) in
+      map-cond f (p a) a (filter p (range_with_len (a + 1) n))
+      ∙ (λ i. cond (same a (omega arith) (omega arith) i) (alike a (omega arith) (omega arith) i ∷ rest i) (rest i))
+      ∙ sym (map-cond g (q a) a (filter q (range_with_len (a + 1) n)))
 
-module _ (xs : List Item) (test : ℕ → Bool) where
-  one : (n : ℕ) (b : Bool) → map (λ j. span (at xs j)) (cond b (n ∷ []) []) ≡ cond b (span (at xs n) ∷ []) []
+module _ (f : ℕ → LocalUse) (test : ℕ → Bool) where
+  one : (n : ℕ) (b : Bool) → map f (cond b (n ∷ []) []) ≡ cond b (f n ∷ []) []
   one n true = refl
   one n false = refl
 
-  pub spans_more : (n : ℕ) → spans xs test (n + 1) ≡ spans xs test n ++ cond (test n) (span (at xs n) ∷ []) []
-  spans_more n =
-      ap (λ l. map (λ j. span (at xs j)) (filter test l)) (range_more xs n)
-      ∙ ap (map (λ j. span (at xs j))) (filter-append test (range_with_len 0 n) (n ∷ []))
-      ∙ map-append (λ j. span (at xs j)) (filter test (range_with_len 0 n)) (filter test (n ∷ []))
-      ∙ ap (λ l. spans xs test n ++ l) (one n (test n))
+  pub uses_more : (n : ℕ) → uses_where f test (n + 1) ≡ uses_where f test n ++ cond (test n) (f n ∷ []) []
+  uses_more n =
+      ap (λ l. map f (filter test l)) (range_more n)
+      ∙ ap (map f) (filter-append test (range_with_len 0 n) (n ∷ []))
+      ∙ map-append f (filter test (range_with_len 0 n)) (filter test (n ∷ []))
+      ∙ ap (λ l. uses_where f test n ++ l) (one n (test n))
 
 -- ---- labels
 module _ (text : List ℕ) (xs : List Item) (b k : ℕ) (table : List Bool) (t : IsTable (starts xs b) (length xs) table) where
@@ -83,11 +93,12 @@ module _ (text : List ℕ) (xs : List Item) (b k : ℕ) (table : List Bool) (t :
       find_same _ _ 0 (length xs)
       (λ j le less. ap (λ c. c && is_same text xs j k) (label_same j (omega (arith, less))))
 
-  pub uses_same : spans xs (uses text xs table k) (length xs)
-      ≡ spans xs (λ j. names_label xs b j && is_same text xs j k) (length xs)
+  pub uses_same : uses_by text xs table k
+      ≡ uses_where (λ j. label_use xs (is_label xs b j) j) (λ j. names_label xs b j && is_same text xs j k) (length xs)
   uses_same =
-      ap (map (λ j. span (at xs j))) (filter_same _ _ 0 (length xs)
-      (λ j le less. ap (λ c. c && is_same text xs j k) (names_same j (omega (arith, less)))))
+      uses_same_by _ _ _ _ 0 (length xs)
+      (λ j le less. ap (λ c. c && is_same text xs j k) (names_same j (omega (arith, less))))
+      (λ j le less. ap (λ c. label_use xs c j) (label_same j (omega (arith, less))))
 
   pub named : k < length xs → names_label xs b k ≡ true → label_named text xs b k ≡ Some (label_of text xs b k)
   named less is =

@@ -1,7 +1,7 @@
 -- The label that a name token names, and all tokens that name it (ISO C 2011, 6.2.1 and 6.8.1, found
 -- in tokens by this project's profile). A label belongs to its function.
-use Rattle.std.specs.Prelude.{ℕ, zero, suc, Bool, true, false, ◌&&◌, ◌||◌, nat_le, nat_lt, not, List, filter}
-use Rattle.std.specs.Prelude.{find, length, map, if◌then◌else◌, Option, None, Some}
+use Rattle.std.specs.Prelude.{ℕ, zero, suc, Bool, true, false, ◌&&◌, ◌||◌, nat_le, nat_lt, not, List, find}
+use Rattle.std.specs.Prelude.{length, if◌then◌else◌, Option, None, Some}
 use Rattle.std.specs.List.{prefix_len, range_with_len}
 use Rattle.std.specs.Option.{option_map, option_map_or}
 use Rattle.std.specs.Str.{bytes_eq}
@@ -11,16 +11,14 @@ use Rattle.cb_scan.specs.lex.Tokens.{bytes_of}
 use Rattle.cb_scan.specs.rules.wide.Words.{is_wide_name}
 use Rattle.cb_names.specs.Braces.{is_name_at}
 use Rattle.cb_names.specs.Functions.{body_of, function_at, items, own_items}
+use Rattle.cb_names.specs.Locals.{LocalName, uses_where}
 use Rattle.cb_names.specs.Pairs.{at}
 use Rattle.cb_names.specs.Statements.{is_label}
+use Rattle.cb_names.specs.declared.local.Access.TheVariants.{Named}
+use Rattle.cb_names.specs.declared.local.LocalUse.{LocalUse}
 use Rattle.cb_names.specs.declared.word.Item.{Item}
 use Rattle.cb_names.specs.declared.word.Word.{Word}
 use Rattle.cb_names.specs.declared.word.Word.TheVariants as word
-
--- a label: where it is defined, if it is, and all tokens that name it, by place
-pub record Labelled : Type 0 where
-  pub definition : Option Span
-  pub uses : List Span
 
 abbrev pub span : Item → Span
 span x = x.token.token.span
@@ -51,29 +49,30 @@ names_label xs b k = is_name_at xs k && (follows_goto xs k || is_label xs b k)
 abbrev pub is_same : List ℕ → List Item → ℕ → ℕ → Bool
 is_same text xs j k = bytes_eq (bytes_of text (span (at xs j))) (bytes_of text (span (at xs k)))
 
--- the spans of the tokens among the first n that pass a test
-abbrev pub spans : List Item → (ℕ → Bool) → ℕ → List Span
-spans xs test n = map (λ j. span (at xs j)) (filter test (range_with_len 0 n))
+-- a token that names a label, which is a label or not
+abbrev pub label_use : List Item → Bool → ℕ → LocalUse
+label_use xs is j = record { name = span (at xs j); access = Named; declares = is }
 
--- the label that the token at index k of a function names
-abbrev pub label_of : List ℕ → List Item → ℕ → ℕ → Labelled
+-- the label that the token at index k of a function names: each label with its name is a declaration
+abbrev pub label_of : List ℕ → List Item → ℕ → ℕ → LocalName
 label_of text xs b k = record {
   definition = option_map (λ j. span (at xs j))
       (find (λ j. is_label xs b j && is_same text xs j k) (range_with_len 0 (length xs)));
-  uses = spans xs (λ j. names_label xs b j && is_same text xs j k) (length xs);
+  uses = uses_where (λ j. label_use xs (is_label xs b j) j)
+      (λ j. names_label xs b j && is_same text xs j k) (length xs);
 }
 
 -- the label that the token at index k names, if it names one
-abbrev pub label_named : List ℕ → List Item → ℕ → ℕ → Option Labelled
+abbrev pub label_named : List ℕ → List Item → ℕ → ℕ → Option LocalName
 label_named text xs b k =
     if nat_lt k (length xs) && names_label xs b k then Some (label_of text xs b k) else None
 
 -- the label of a function that is named at a place
-abbrev pub label_in : List ℕ → List Item → ℕ → ℕ → Option Labelled
+abbrev pub label_in : List ℕ → List Item → ℕ → ℕ → Option LocalName
 label_in text xs b place = label_named text xs b (index_at place xs)
 
--- the label that is named at a place of a text
-abbrev pub label_at : List ℕ → ℕ → Option Labelled
-label_at text place =
+-- what the name at a place of a text means in its function alone
+abbrev pub local_at : List ℕ → ℕ → Option LocalName
+local_at text place =
     option_map_or (λ (r : Range). label_in text (own_items (items text) r)
     (body_of (own_items (items text) r) r) place) (function_at text place) None

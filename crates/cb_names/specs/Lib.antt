@@ -3,6 +3,7 @@ pub mod Declarations
 pub mod Functions
 pub mod HardAttributes
 pub mod Labels
+pub mod Locals
 pub mod Pairs
 pub mod Shapes
 pub mod Statements

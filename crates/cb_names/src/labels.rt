@@ -6,53 +6,22 @@ ghost use Rattle.std.specs.Str.{bytes_eq};
 ghost use Rattle.cb_scan.specs.lex.Tokens.{bytes_of};
 ghost use Rattle.cb_names.specs.Functions.{IsItemOf, body_of};
 ghost use Rattle.cb_names.specs.Labels.{follows_goto, index_at, is_goto, is_same, is_touched};
-ghost use Rattle.cb_names.specs.Labels.{label_at, label_in, label_named, names_label, span};
+ghost use Rattle.cb_names.specs.Labels.{label_in, label_named, label_use, local_at, names_label, span};
 ghost use Rattle.cb_names.specs.Pairs.{at};
 ghost use Rattle.cb_names.specs.Shapes.{IsShape};
 ghost use Rattle.cb_names.specs.Statements.{is_label, is_lone_colon, starts};
 ghost use Rattle.cb_names.specs.Tables.{IsTable};
 ghost use Rattle.cb_names.specs.steps.Labelling.{defines, definition_by, is_label_by};
-ghost use Rattle.cb_names.specs.steps.Labelling.{names_label_by, uses, uses_by};
+ghost use Rattle.cb_names.specs.steps.Labelling.{names_label_by, use_by, uses, uses_by};
 
 use crate::braces::is_name_at;
 use crate::function::{Function, body_of, function_at};
+use crate::local::{Access, Local, LocalUse, push_if};
 use crate::shape::{Shape, shape_of};
 use crate::statements::{is_lone_colon, starts_of};
 use crate::word::{Item, Word};
 use cb_scan::{ScanError, Source, Span};
 use std::alloc::{AllocError, Global};
-use std::marker::Model;
-
-/// A label of a function.
-#[derive(Drop)]
-pub struct Label {
-    definition: Option<Span>,
-    uses: Vec<Span>,
-}
-
-impl Model for Label {
-    ghost use Rattle.cb_names.specs.Labels.{Labelled};
-
-    ghost Value = { Labelled };
-
-    ghost view = { λ l. record { definition = l.definition; uses = l.uses.items } };
-}
-
-impl Label {
-    /// Its first definition; none where its function has only `goto` with this name.
-    pub fn definition(&self) -> Option<Span>
-        ensures { result ≡ self.now.definition }
-    {
-        self.definition
-    }
-
-    /// All tokens that name it, by place: each definition, and each name behind `goto`.
-    pub fn uses(&self) -> &[Span]
-        ensures { result.now ≡ self.now.uses }
-    {
-        self.uses.as_slice()
-    }
-}
 
 fn is_touched(place: u32, item: &Item) -> bool
     ensures { result ≡ is_touched place item.now }
@@ -180,15 +149,25 @@ fn definition_of(text: &[u8], items: &[Item], starts: &[bool], k: u32) -> Option
     None
 }
 
-/// Appends the span of a token, if it is wanted.
-fn push_if(is_wanted: bool, span: Span, uses: &mut Vec<Span>) -> Result<(), AllocError>
-    ensures { IfOk result
-        (λ _. uses.new.items ≡ uses.old.items ++ (if is_wanted then span ∷ [] else [])) }
+/// A token that names a label, which is a label or not.
+fn label_use(items: &[Item], is_label: bool, j: u32) -> LocalUse
+    requires { j < length items.now }
+    ensures { result ≡ label_use items.now is_label j }
 {
-    if is_wanted {
-        uses.push(span)?;
+    LocalUse {
+        name: span_at(items, j),
+        access: Access::Named,
+        declares: is_label,
     }
-    Ok(())
+}
+
+/// The same, where it is known with which tokens a statement begins.
+fn use_by(items: &[Item], starts: &[bool], j: u32) -> LocalUse
+    requires few { length items.now < 2 ^ 32 }
+    requires within { j < length items.now }
+    ensures { result ≡ use_by items.now starts.now j }
+{
+    label_use(items, is_label(items, begins(starts, j), j), j)
 }
 
 /// All tokens that name the label with the name of a token.
@@ -198,7 +177,7 @@ fn uses_of(
     items: &[Item],
     starts: &[bool],
     k: u32,
-) -> Result<Vec<Span>, AllocError>
+) -> Result<Vec<LocalUse>, AllocError>
     requires few { length items.now < 2 ^ 32 }
     requires within { AllByRecursion (IsItemOf text.now) items.now }
     requires index { k < length items.now }
@@ -207,7 +186,7 @@ fn uses_of(
     let mut found = Vec::new(alloc);
     for j in 0..items.len() as u32 {
         let is_wanted = uses(text, items, starts, k, j);
-        push_if(is_wanted, span_at(items, j), &mut found)?;
+        push_if(is_wanted, use_by(items, starts, j), &mut found)?;
     }
     Ok(found)
 }
@@ -219,7 +198,7 @@ fn label_in(
     items: Vec<Item>,
     body: u32,
     place: u32,
-) -> Result<Option<Label>, AllocError>
+) -> Result<Option<Local>, AllocError>
     requires few { length items.items < 2 ^ 32 }
     requires within { AllByRecursion (IsItemOf text.now) items.items }
     ensures { IfOk result (λ found. found ≡ label_in text.now items.items body place) }
@@ -240,7 +219,7 @@ fn label_of(
     shape: &Shape,
     begun: &[bool],
     k: u32,
-) -> Result<Option<Label>, AllocError>
+) -> Result<Option<Local>, AllocError>
     requires shape { IsShape shape.now }
     requires within { AllByRecursion (IsItemOf text.now) shape.now.items.items }
     requires index { k < length shape.now.items.items }
@@ -252,7 +231,7 @@ fn label_of(
     let items = shape.items.as_slice();
     if names_label(items, begins(begun, k), k) {
         let uses = uses_of(alloc, text, items, begun, k)?;
-        Ok(Some(Label {
+        Ok(Some(Local {
             definition: definition_of(text, items, begun, k),
             uses,
         }))
@@ -267,7 +246,7 @@ fn label_of_function(
     source: &Source,
     place: u32,
     function: Function,
-) -> Result<Option<Label>, AllocError>
+) -> Result<Option<Local>, AllocError>
     requires few { length function.items.items < 2 ^ 32 }
     requires within { AllByRecursion (IsItemOf source.now) function.items.items }
     ensures { IfOk result (λ found. found ≡ label_in source.now function.items.items
@@ -277,11 +256,10 @@ fn label_of_function(
     label_in(alloc, source.bytes(), function.items, body, place)
 }
 
-/// The label that is named at a place of a text: by a name token that holds the place or ends at it,
-/// and is a label or stands behind `goto`. Refused memory is the only error. Time in proportion to
-/// the text.
-pub fn label_at(alloc: Global, source: &Source, place: u32) -> Result<Option<Label>, ScanError>
-    ensures label { IfOk result (λ found. found ≡ label_at source.now place) }
+/// What the name at a place of a text means in its function alone: the name token that holds the
+/// place or ends at it counts. Refused memory is the only error. Time in proportion to the text.
+pub fn local_at(alloc: Global, source: &Source, place: u32) -> Result<Option<Local>, ScanError>
+    ensures local { IfOk result (λ found. found ≡ local_at source.now place) }
     ensures memory { IfErr result (λ e. e ≡ ScanError.OutOfMemory) }
 {
     let Some(function) = function_at(alloc, source, place)? else {

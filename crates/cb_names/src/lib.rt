@@ -1,7 +1,7 @@
 //! What a name of a C text means, by rules over its tokens alone: no preprocessing, no compiler, all
 //! branches of `#if`.
 //!
-//! [`label_at`] finds the label that a name names. The crate stands on `cb_scan` (tokens of the code,
+//! [`local_at`] finds what a name means that is known in its function alone. The crate stands on `cb_scan` (tokens of the code,
 //! functions) and knows one text at a time.
 #![tactic(auto)]
 
@@ -20,5 +20,7 @@ mod statements;
 
 // What its names mean.
 mod labels;
+mod local;
 
-pub use labels::{Label, label_at};
+pub use labels::local_at;
+pub use local::{Access, Local, LocalUse};

@@ -5,9 +5,11 @@ use Rattle.std.specs.List.{range_with_len}
 use Rattle.std.specs.Option.{option_map}
 use Rattle.cb_scan.specs.declared.lex.piece.Span.{Span}
 use Rattle.cb_names.specs.Braces.{is_name_at}
-use Rattle.cb_names.specs.Labels.{follows_goto, is_same, span, spans}
+use Rattle.cb_names.specs.Labels.{follows_goto, is_same, label_use, span}
+use Rattle.cb_names.specs.Locals.{uses_where}
 use Rattle.cb_names.specs.Pairs.{at}
 use Rattle.cb_names.specs.Statements.{is_lone_colon}
+use Rattle.cb_names.specs.declared.local.LocalUse.{LocalUse}
 use Rattle.cb_names.specs.declared.word.Item.{Item}
 
 abbrev pub is_label_by : List Item → Bool → ℕ → Bool
@@ -27,5 +29,8 @@ abbrev pub definition_by : List ℕ → List Item → List Bool → ℕ → Opti
 definition_by text xs starts k =
     option_map (λ j. span (at xs j)) (find (defines text xs starts k) (range_with_len 0 (length xs)))
 
-abbrev pub uses_by : List ℕ → List Item → List Bool → ℕ → List Span
-uses_by text xs starts k = spans xs (uses text xs starts k) (length xs)
+abbrev pub use_by : List Item → List Bool → ℕ → LocalUse
+use_by xs starts j = label_use xs (is_label_by xs (slice_index_or starts j false) j) j
+
+abbrev pub uses_by : List ℕ → List Item → List Bool → ℕ → List LocalUse
+uses_by text xs starts k = uses_where (use_by xs starts) (uses text xs starts k) (length xs)

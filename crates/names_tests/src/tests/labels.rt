@@ -1,5 +1,5 @@
 //! Labels, worked out by hand.
-use cb_names::label_at;
+use cb_names::local_at;
 use cb_scan::{Source, Span};
 use std::test::Fail;
 
@@ -18,7 +18,7 @@ fn names(
     uses: &[u32],
 ) -> Result<bool, Fail> {
     let source = source_of(rt, text)?;
-    let Some(label) = label_at(rt.alloc(), &source, place)? else {
+    let Some(label) = local_at(rt.alloc(), &source, place)? else {
         return Ok(uses.is_empty());
     };
     let starts = label.uses();
@@ -27,8 +27,8 @@ fn names(
     {
         return Ok(false);
     }
-    for (i, span) in starts.iter().enumerate() {
-        if span.start != uses[i] {
+    for (i, one) in starts.iter().enumerate() {
+        if one.name.start != uses[i] {
             return Ok(false);
         }
     }
