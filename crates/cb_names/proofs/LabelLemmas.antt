@@ -21,7 +21,7 @@ use Rattle.cb_names.specs.Pairs.{at}
 use Rattle.cb_names.specs.Statements.{is_label, is_lone_colon, starts}
 use Rattle.cb_names.specs.Tables.{IsTable}
 use Rattle.cb_names.specs.Words.{item_of}
-use Rattle.cb_names.specs.steps.Labelling.{defines, is_label_by, names_label_by, uses, uses_by}
+use Rattle.cb_names.specs.steps.Labelling.{defines, is_label_by, names_label_by, uses_by}
 use Rattle.cb_names.proofs.HardLemmas.{range_more}
 use Rattle.cb_scan.proofs.WithinLemmas.{all-append, all-drop, all-take}
 

@@ -1,8 +1,15 @@
+pub mod AccessLemmas
+pub mod BindingLemmas
 pub mod BraceLemmas
 pub mod BracketLemmas
+pub mod DeclaratorLemmas
+pub mod DeclaredLemmas
 pub mod HardLemmas
 pub mod LabelLemmas
 pub mod PairingLemmas
 pub mod SignLemmas
 pub mod StatementLemmas
+pub mod ScopeLemmas
+pub mod ShapeLemmas
 pub mod TableLemmas
+pub mod VariableLemmas

@@ -255,7 +255,7 @@ module _ (s : Shape) (is : IsShape s) where
   abbrev all : List Item
   all = s.items.items
 
-  block_by : (o : Option ℕ) → ((j : ℕ) → o ≡ Some j → j < length all)
+  pub block_by : (o : Option ℕ) → ((j : ℕ) → o ≡ Some j → j < length all)
       → in_block_by s.kinds.items o ≡ option_map_or (λ j. is_block (kind_at all s.body j)) o false
   block_by None less = refl
   block_by (Some j) less = ap is_block (is.kinds.at j Other (less j refl))

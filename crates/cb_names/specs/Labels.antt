@@ -3,14 +3,12 @@
 use Rattle.std.specs.Prelude.{ℕ, zero, suc, Bool, true, false, ◌&&◌, ◌||◌, nat_le, nat_lt, not, List, find}
 use Rattle.std.specs.Prelude.{length, if◌then◌else◌, Option, None, Some}
 use Rattle.std.specs.List.{prefix_len, range_with_len}
-use Rattle.std.specs.Option.{option_map, option_map_or}
+use Rattle.std.specs.Option.{option_map}
 use Rattle.std.specs.Str.{bytes_eq}
 use Rattle.cb_scan.specs.declared.lex.piece.Span.{Span}
-use Rattle.cb_scan.specs.declared.rules.scope.Range.{Range}
 use Rattle.cb_scan.specs.lex.Tokens.{bytes_of}
 use Rattle.cb_scan.specs.rules.wide.Words.{is_wide_name}
 use Rattle.cb_names.specs.Braces.{is_name_at}
-use Rattle.cb_names.specs.Functions.{body_of, function_at, items, own_items}
 use Rattle.cb_names.specs.Locals.{LocalName, uses_where}
 use Rattle.cb_names.specs.Pairs.{at}
 use Rattle.cb_names.specs.Statements.{is_label}
@@ -66,13 +64,3 @@ label_of text xs b k = record {
 abbrev pub label_named : List ℕ → List Item → ℕ → ℕ → Option LocalName
 label_named text xs b k =
     if nat_lt k (length xs) && names_label xs b k then Some (label_of text xs b k) else None
-
--- the label of a function that is named at a place
-abbrev pub label_in : List ℕ → List Item → ℕ → ℕ → Option LocalName
-label_in text xs b place = label_named text xs b (index_at place xs)
-
--- what the name at a place of a text means in its function alone
-abbrev pub local_at : List ℕ → ℕ → Option LocalName
-local_at text place =
-    option_map_or (λ (r : Range). label_in text (own_items (items text) r)
-    (body_of (own_items (items text) r) r) place) (function_at text place) None

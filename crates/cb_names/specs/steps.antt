@@ -1,5 +1,11 @@
+pub mod Binding
+pub mod Declaring
 pub mod Hiding
 pub mod Labelling
+pub mod Naming
+pub mod Namings
 pub mod Opening
 pub mod Pairing
+pub mod Scoping
 pub mod Starting
+pub mod Telling

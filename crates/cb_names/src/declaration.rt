@@ -53,7 +53,7 @@ fn is_star(item: &Item) -> bool
     item.token.role.is_sign(b'*')
 }
 
-fn is_name_item(item: &Item) -> bool
+pub(crate) fn is_name_item(item: &Item) -> bool
     ensures { result ≡ is_name_item item.now }
 {
     item.token.role.is_name()
@@ -72,7 +72,7 @@ fn is_stray_word(item: &Item) -> bool
 }
 
 /// The tokens from an index on.
-fn from(items: &[Item], at: u32) -> &[Item]
+pub(crate) fn from(items: &[Item], at: u32) -> &[Item]
     ensures { result.now ≡ drop at items.now }
 {
     if at as usize <= items.len() {

@@ -33,7 +33,7 @@ fn is_before(place: u32, item: &Item) -> bool
 }
 
 /// How many tokens begin before a place.
-fn before(place: u32, items: &[Item]) -> usize
+pub(crate) fn before(place: u32, items: &[Item]) -> usize
     ensures value { result ≡ before place items.now }
     ensures within { result ≤ length items.now }
 {

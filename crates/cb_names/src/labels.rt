@@ -4,9 +4,9 @@ ghost use Rattle.std.specs.Prelude.{◌++◌, ◌∷◌, [], false, if◌then◌
 ghost use Rattle.std.specs.List.{AllByRecursion, prefix_len, range_with_len};
 ghost use Rattle.std.specs.Str.{bytes_eq};
 ghost use Rattle.cb_scan.specs.lex.Tokens.{bytes_of};
-ghost use Rattle.cb_names.specs.Functions.{IsItemOf, body_of};
+ghost use Rattle.cb_names.specs.Functions.{IsItemOf};
 ghost use Rattle.cb_names.specs.Labels.{follows_goto, index_at, is_goto, is_same, is_touched};
-ghost use Rattle.cb_names.specs.Labels.{label_in, label_named, label_use, local_at, names_label, span};
+ghost use Rattle.cb_names.specs.Labels.{label_named, label_use, names_label, span};
 ghost use Rattle.cb_names.specs.Pairs.{at};
 ghost use Rattle.cb_names.specs.Shapes.{IsShape};
 ghost use Rattle.cb_names.specs.Statements.{is_label, is_lone_colon, starts};
@@ -15,12 +15,11 @@ ghost use Rattle.cb_names.specs.steps.Labelling.{defines, definition_by, is_labe
 ghost use Rattle.cb_names.specs.steps.Labelling.{names_label_by, use_by, uses, uses_by};
 
 use crate::braces::is_name_at;
-use crate::function::{Function, body_of, function_at};
 use crate::local::{Access, Local, LocalUse, push_if};
-use crate::shape::{Shape, shape_of};
-use crate::statements::{is_lone_colon, starts_of};
+use crate::shape::Shape;
+use crate::statements::is_lone_colon;
 use crate::word::{Item, Word};
-use cb_scan::{ScanError, Source, Span};
+use cb_scan::Span;
 use std::alloc::{AllocError, Global};
 
 fn is_touched(place: u32, item: &Item) -> bool
@@ -32,7 +31,7 @@ fn is_touched(place: u32, item: &Item) -> bool
 
 /// The index of the first name token that holds a place or ends at it; the number of tokens where
 /// none does.
-fn index_at(place: u32, items: &[Item]) -> usize
+pub(crate) fn index_at(place: u32, items: &[Item]) -> usize
     ensures value { result ≡ index_at place items.now }
     ensures within { result ≤ length items.now }
 {
@@ -57,7 +56,7 @@ fn follows_goto(items: &[Item], at: u32) -> bool
 }
 
 /// The answer for a token; false where there is no such token.
-fn begins(starts: &[bool], at: u32) -> bool
+pub(crate) fn begins(starts: &[bool], at: u32) -> bool
     ensures { result ≡ slice_index_or starts.now at false }
 {
     match starts.get(at as usize) {
@@ -67,7 +66,7 @@ fn begins(starts: &[bool], at: u32) -> bool
 }
 
 /// The span of a token.
-fn span_at(items: &[Item], index: u32) -> Span
+pub(crate) fn span_at(items: &[Item], index: u32) -> Span
     requires { index < length items.now }
     ensures { result ≡ span (at items.now index) }
 {
@@ -75,7 +74,7 @@ fn span_at(items: &[Item], index: u32) -> Span
 }
 
 /// The bytes of a token.
-fn bytes_at<'a>(text: &'a [u8], items: &[Item], index: u32) -> &'a [u8]
+pub(crate) fn bytes_at<'a>(text: &'a [u8], items: &[Item], index: u32) -> &'a [u8]
     requires within { AllByRecursion (IsItemOf text.now) items.now }
     requires index { index < length items.now }
     ensures { result.now ≡ bytes_of text.now (span (at items.now index)) }
@@ -104,7 +103,7 @@ fn is_label(items: &[Item], begins: bool, at: u32) -> bool
 }
 
 /// Whether a name token names a label, where a statement begins with it or not.
-fn names_label(items: &[Item], begins: bool, at: u32) -> bool
+pub(crate) fn names_label(items: &[Item], begins: bool, at: u32) -> bool
     requires few { length items.now < 2 ^ 32 }
     requires within { at < length items.now }
     ensures { result ≡ names_label_by items.now begins at }
@@ -191,29 +190,8 @@ fn uses_of(
     Ok(found)
 }
 
-/// The label of a function that is named at a place.
-fn label_in(
-    alloc: Global,
-    text: &[u8],
-    items: Vec<Item>,
-    body: u32,
-    place: u32,
-) -> Result<Option<Local>, AllocError>
-    requires few { length items.items < 2 ^ 32 }
-    requires within { AllByRecursion (IsItemOf text.now) items.items }
-    ensures { IfOk result (λ found. found ≡ label_in text.now items.items body place) }
-{
-    let k = index_at(place, items.as_slice());
-    if k == items.len() {
-        return Ok(None);
-    }
-    let shape = shape_of(alloc, items, body)?;
-    let starts = starts_of(alloc, &shape)?;
-    label_of(alloc, text, &shape, starts.as_slice(), k as u32)
-}
-
 /// The label that the token at an index names, if it names one.
-fn label_of(
+pub(crate) fn label_of(
     alloc: Global,
     text: &[u8],
     shape: &Shape,
@@ -237,36 +215,5 @@ fn label_of(
         }))
     } else {
         Ok(None)
-    }
-}
-
-/// The same of a function.
-fn label_of_function(
-    alloc: Global,
-    source: &Source,
-    place: u32,
-    function: Function,
-) -> Result<Option<Local>, AllocError>
-    requires few { length function.items.items < 2 ^ 32 }
-    requires within { AllByRecursion (IsItemOf source.now) function.items.items }
-    ensures { IfOk result (λ found. found ≡ label_in source.now function.items.items
-        (body_of function.items.items function.range) place) }
-{
-    let body = body_of(function.items.as_slice(), function.range) as u32;
-    label_in(alloc, source.bytes(), function.items, body, place)
-}
-
-/// What the name at a place of a text means in its function alone: the name token that holds the
-/// place or ends at it counts. Refused memory is the only error. Time in proportion to the text.
-pub fn local_at(alloc: Global, source: &Source, place: u32) -> Result<Option<Local>, ScanError>
-    ensures local { IfOk result (λ found. found ≡ local_at source.now place) }
-    ensures memory { IfErr result (λ e. e ≡ ScanError.OutOfMemory) }
-{
-    let Some(function) = function_at(alloc, source, place)? else {
-        return Ok(None);
-    };
-    match label_of_function(alloc, source, place, function) {
-        Ok(found) => Ok(found),
-        Err(_) => Err(ScanError::OutOfMemory),
     }
 }

@@ -1,8 +1,9 @@
 //! What a name of a C text means, by rules over its tokens alone: no preprocessing, no compiler, all
 //! branches of `#if`.
 //!
-//! [`local_at`] finds what a name means that is known in its function alone. The crate stands on `cb_scan` (tokens of the code,
-//! functions) and knows one text at a time.
+//! [`local_at`] finds what a name means that is known in its function alone: a label, a local
+//! variable or a parameter. The crate stands on `cb_scan` (tokens of the code, functions) and knows
+//! one text at a time.
 #![tactic(auto)]
 
 // The tokens of a function: what the word of each is, which are of attributes, which brackets pair,
@@ -16,11 +17,18 @@ mod word;
 
 // Its statements: where they begin, and which are declarations.
 mod declaration;
+mod declarators;
+mod declared;
+mod scopes;
 mod statements;
 
 // What its names mean.
+mod accesses;
+mod bindings;
 mod labels;
 mod local;
+mod meaning;
+mod spaces;
 
-pub use labels::local_at;
 pub use local::{Access, Local, LocalUse};
+pub use meaning::local_at;

@@ -44,6 +44,19 @@ pub(crate) fn sign(items: &[Item], at: u32) -> u8
     }
 }
 
+/// The same at an index that may be behind the last token.
+pub(crate) fn byte_at(items: &[Item], at: usize) -> u8
+    ensures { result ≡ sign items.now at }
+{
+    match items.get(at) {
+        Some(item) => match item.token.role {
+            WideRole::Mark(byte) => byte,
+            _ => 0,
+        },
+        None => 0,
+    }
+}
+
 pub(crate) fn opens(items: &[Item], at: u32) -> bool
     ensures { result ≡ opens items.now at }
 {

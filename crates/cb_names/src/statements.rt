@@ -129,7 +129,7 @@ fn case_after(
 }
 
 /// Whether a bracket is the `{` of a block.
-fn in_block_by(kinds: &[Brace], bracket: Option<u32>) -> bool
+pub(crate) fn in_block_by(kinds: &[Brace], bracket: Option<u32>) -> bool
     ensures { result ≡ in_block_by kinds.now bracket }
 {
     match bracket {
@@ -188,7 +188,7 @@ fn starts_by(
 }
 
 /// The bracket that a token closes, where it pairs with this one.
-fn closed_by(items: &[Item], at: u32, pair: Option<u32>) -> Option<u32>
+pub(crate) fn closed_by(items: &[Item], at: u32, pair: Option<u32>) -> Option<u32>
     ensures { result ≡ closed_by items.now at pair }
 {
     if opens(items, at) { None } else { pair }
