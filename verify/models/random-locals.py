@@ -3,11 +3,12 @@
 
     verify/models/random-locals.py [--texts N] [--first SEED] [--most N]
 
-A local is a label, a parameter or a variable of a function. A small program asks `local_at` at each
-name; `rt try` runs it in a copy of the sources, without a proof. Compared are whether a name is that
-of a local, its definition, and all uses: where they stand, what is done with the name there, and
-which of them are declarations. For each kind of difference the smallest text is printed. The exit
-status is 1 if there is one.
+A local is a label, a parameter or a variable of a function. A small program asks `local_at` at one
+of the names that mean the same, and at one of each name that means nothing. `rt try` runs it in a
+copy of the sources, without a proof. Compared are whether a name is that of a local, its
+definition, and all uses: where they stand, what is done with the name there, and which of them are
+declarations. For each kind of difference a small text is printed. The exit status is 1 if there is
+a difference.
 
 Left out is what `docs/NAMES.md` names as a limit.
 """
