@@ -1,7 +1,7 @@
 #!/usr/bin/env python3
 """Compares the locals that `cb_names` finds in random texts with those of the model of names.
 
-    verify/models/random-locals.py [--texts N] [--first SEED] [--most N]
+    verify/models/random-locals.py [--texts N] [--first SEED] [--bytes N] [--most N]
 
 A local is a label, a parameter or a variable of a function. A small program asks `local_at` at one
 of the names that mean the same, and at one of each name that means nothing. `rt try` runs it in a
@@ -31,7 +31,6 @@ from draw_names import DrawNames
 from names_model import Text
 
 TOP = pathlib.Path(__file__).resolve().parent.parent.parent
-MOST_BYTES = 300  # `rt try` takes a second for each question in a long text
 MOST_TRIES = 200  # for a smaller text with the same difference
 NAME = "show_locals"
 LINE_FEED = b"\x01"  # stands for an LF within a text
@@ -222,10 +221,11 @@ class Expected:
         return places
 
     def is_in_function(self, thing):
-        """Whether a thing begins in a function: else it is of a list of the file."""
+        """Whether a thing is of a function: else it is of a list of the file."""
         tokens = self.model.code.tokens
         return any(
-            tokens[one.start].place <= thing.start <= tokens[one.last].place
+            thing.start == tokens[one.start].place
+            or tokens[one.name].place <= thing.start <= tokens[one.last].place
             for one in self.model.functions
         )
 
@@ -344,6 +344,7 @@ def main() -> int:
     parser = argparse.ArgumentParser(description=__doc__.splitlines()[0])
     parser.add_argument("--texts", type=int, default=400)
     parser.add_argument("--first", type=int, default=1, help="the seed of the first text")
+    parser.add_argument("--bytes", type=int, default=300, help="of the longest text")
     parser.add_argument("--most", type=int, default=2, help="how many are shown of each kind")
     args = parser.parse_args()
     found, texts, asked = collections.Counter(), 0, 0
@@ -351,7 +352,7 @@ def main() -> int:
         program = Program(folder)
         for seed in range(args.first, args.first + args.texts):
             text = DrawNames(seed).text()
-            if len(text) > MOST_BYTES:
+            if len(text) > args.bytes:
                 continue
             texts, asked = texts + 1, asked + len(Expected(text).asked())
             for kind in differences(program, text):
