@@ -26,7 +26,6 @@ import sys
 import tempfile
 from typing import NamedTuple, Optional
 
-import wide_model
 from draw_names import DrawNames
 from names_model import Text
 
