@@ -438,14 +438,15 @@ class Text:
     # ---- braces, statements and loops of a function
 
     def walk(self, function):
-        """Finds the blocks, loops, statements and labels of a function, in one pass."""
+        """Finds the blocks, loops, statements and labels of a function, in one pass. A `for` counts in
+        its head as well."""
         code = self.code
         self.scopes.append(Scope("function", function.start, function.last))
         begins = set()  # the tokens that begin a statement
         cases = {}  # of each block the cases whose `:` is to come, by the `?` that are open
-        for index in range(function.brace, function.last + 1):
+        for index in range(function.start, function.last + 1):
             text, around = code.text(index), code.around[index]
-            if text == b"{":
+            if text == b"{" and index >= function.brace:
                 is_first = index == function.brace
                 self.kinds[index] = "block" if is_first else self.kind_of_brace(index)
                 if self.kinds[index] == "block":
@@ -456,7 +457,7 @@ class Text:
                 opened = code.following(index)
                 begins.add(code.following(opened))
                 self.scopes.append(Scope("for", opened, self.end_of_for(function, index, opened)))
-            if self.kinds.get(around) != "block" or index == function.brace:
+            if self.kinds.get(around) != "block" or index <= function.brace:
                 continue
             if self.ends_statement(index, cases):
                 begins.add(code.following(index))

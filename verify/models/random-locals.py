@@ -2,6 +2,7 @@
 """Compares the locals that `cb_names` finds in random texts with those of the model of names.
 
     verify/models/random-locals.py [--texts N] [--first SEED] [--bytes N] [--most N]
+    verify/models/random-locals.py --self-test [--texts N] [--first SEED] [--bytes N]
 
 A local is a label, a parameter or a variable of a function. A small program asks `local_at` at one
 of the names that mean the same, and at one of each name that means nothing. `rt try` runs it in a
@@ -10,7 +11,8 @@ definition, and all uses: where they stand, what is done with the name there, an
 declarations. For each kind of difference a small text is printed. The exit status is 1 if there is
 a difference.
 
-Left out is what `docs/NAMES.md` names as a limit.
+Left out is what `docs/NAMES.md` names as a limit. The self-test puts each wrong rule of
+`names_plants.py` into the model in place of the program: the texts have to show each.
 """
 
 from __future__ import annotations
@@ -26,6 +28,7 @@ import sys
 import tempfile
 from typing import NamedTuple, Optional
 
+import names_plants
 from draw_names import DrawNames
 from names_model import Text
 
@@ -194,8 +197,8 @@ def use_of(word):
 class Expected:
     """What the model says of the locals of a text."""
 
-    def __init__(self, text):
-        self.model = model = Text(text)
+    def __init__(self, text, rules=Text):
+        self.model = model = rules(text)
         self.hidden = self.hidden_places()
         self.tokens = [
             token
@@ -211,13 +214,20 @@ class Expected:
         for first, last in code.hard_last.items():
             hidden.update(range(first, last + 1))
         for one in self.model.scopes:
-            if one.kind == "list" and self.model.kinds.get(code.around[one.first]) == "body":
+            if one.kind == "list" and self.is_in_structure(one.first):
                 hidden.update(range(one.first, one.last + 1))
         places = {code.tokens[index].place for index in hidden}
         for place in self.model.members:
             if self.model.in_body[self.model.index[place]]:
                 places.add(place)
         return places
+
+    def is_in_structure(self, index):
+        """Whether the innermost open brace of a function opens a body."""
+        code, around = self.model.code, index
+        while around >= 0 and code.text(around) != b"{":
+            around = code.around[around]
+        return self.model.kinds.get(around) == "body"
 
     def is_in_function(self, thing):
         """Whether a thing is of a function: else it is of a list of the file."""
@@ -339,28 +349,56 @@ def report(program, text, kind):
     print(f"    program {shown(other)}\n    model   {shown(model)}", flush=True)
 
 
+def texts(args):
+    """Random texts, each with its seed."""
+    for seed in range(args.first, args.first + args.texts):
+        text = DrawNames(seed).text()
+        if len(text) <= args.bytes:
+            yield seed, text
+
+
+def shows(text, rules):
+    """Whether a text shows that rules are wrong."""
+    expected, wrong = Expected(text), Expected(text, rules)
+    return any(
+        [*kinds_of(expected, expected.local(place), wrong.local(place))]
+        for place in expected.asked()
+    )
+
+
+def self_test(args):
+    """Prints the first text that shows each wrong rule; the exit status is 1 if none does."""
+    drawn, status = [*texts(args)], 0
+    for rules in names_plants.PLANTS:
+        if issubclass(rules, Text) and rules is not names_plants.TagsOfFile:
+            found = next((seed for seed, text in drawn if shows(text, rules)), None)
+            print(f"{rules.__name__}: {'NOT FOUND' if found is None else f'seed {found}'}")
+            status |= found is None
+    return status
+
+
 def main() -> int:
     parser = argparse.ArgumentParser(description=__doc__.splitlines()[0])
-    parser.add_argument("--texts", type=int, default=400)
+    parser.add_argument("--texts", type=int, default=6000, help="of any length are drawn")
     parser.add_argument("--first", type=int, default=1, help="the seed of the first text")
-    parser.add_argument("--bytes", type=int, default=300, help="of the longest text")
+    parser.add_argument("--bytes", type=int, default=300, help="of the longest text that is taken")
     parser.add_argument("--most", type=int, default=2, help="how many are shown of each kind")
+    parser.add_argument("--self-test", action="store_true")
     args = parser.parse_args()
-    found, texts, asked = collections.Counter(), 0, 0
+    if args.self_test:
+        return self_test(args)
+    found, taken, asked = collections.Counter(), 0, 0
     with tempfile.TemporaryDirectory() as folder:
         program = Program(folder)
-        for seed in range(args.first, args.first + args.texts):
-            text = DrawNames(seed).text()
-            if len(text) > args.bytes:
-                continue
-            texts, asked = texts + 1, asked + len(Expected(text).asked())
+        for seed, text in texts(args):
+            taken, asked = taken + 1, asked + len(Expected(text).asked())
             for kind in differences(program, text):
                 found[kind] += 1
                 if found[kind] <= args.most:
                     print(f"seed {seed}: ", end="")
                     report(program, text, kind)
         program.end()
-    print(f"{texts} texts, {asked} names asked for, {found.total()} differences")
+    print(f"{taken} texts, {asked} names asked for, {found.total()} differences")
     for kind, count in found.most_common():
         print(f"{count} {kind}")
     return 1 if found else 0
