@@ -438,8 +438,8 @@ class Text:
     # ---- braces, statements and loops of a function
 
     def walk(self, function):
-        """Finds the blocks, loops, statements and labels of a function, in one pass. A `for` counts in
-        its head as well."""
+        """Finds the blocks, loops, statements and labels of a function, in one pass. A `for` counts
+        in its head as well."""
         code = self.code
         self.scopes.append(Scope("function", function.start, function.last))
         begins = set()  # the tokens that begin a statement

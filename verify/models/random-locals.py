@@ -2,6 +2,7 @@
 """Compares the locals that `cb_names` finds in random texts with those of the model of names.
 
     verify/models/random-locals.py [--texts N] [--first SEED] [--bytes N] [--most N]
+    verify/models/random-locals.py --sources FOLDER [--bytes N] [--most N]
     verify/models/random-locals.py --self-test [--texts N] [--first SEED] [--bytes N]
 
 A local is a label, a parameter or a variable of a function. A small program asks `local_at` at one
@@ -10,6 +11,8 @@ copy of the sources, without a proof. Compared are whether a name is that of a l
 definition, and all uses: where they stand, what is done with the name there, and which of them are
 declarations. For each kind of difference a small text is printed. The exit status is 1 if there is
 a difference.
+
+With a folder of sources the texts are the functions of C files there, each alone.
 
 Left out is what `docs/NAMES.md` names as a limit. The self-test puts each wrong rule of
 `names_plants.py` into the model in place of the program: the texts have to show each.
@@ -33,6 +36,9 @@ from draw_names import DrawNames
 from names_model import Text
 
 TOP = pathlib.Path(__file__).resolve().parent.parent.parent
+sys.path.insert(0, str(TOP / "verify"))
+from shared import c_files  # noqa: E402
+
 MOST_TRIES = 200  # for a smaller text with the same difference
 NAME = "show_locals"
 LINE_FEED = b"\x01"  # stands for an LF within a text
@@ -349,12 +355,34 @@ def report(program, text, kind):
     print(f"    program {shown(other)}\n    model   {shown(model)}", flush=True)
 
 
-def texts(args):
+def drawn(args):
     """Random texts, each with its seed."""
     for seed in range(args.first, args.first + args.texts):
-        text = DrawNames(seed).text()
-        if len(text) <= args.bytes:
-            yield seed, text
+        yield f"seed {seed}", DrawNames(seed).text()
+
+
+def functions(folder):
+    """The functions of the C files of a folder, each with its file."""
+    for name in c_files(folder, form=".*"):
+        model = Text((folder / name).read_bytes())
+        tokens = model.code.tokens
+        for one in model.functions:
+            yield name, model.text[tokens[one.start].place : tokens[one.last].end]
+
+
+def texts(args):
+    """What is compared, each text with where it is from."""
+    for where, text in functions(args.sources) if args.sources else drawn(args):
+        if len(text) <= args.bytes and is_plain(text):
+            yield where, text
+
+
+def is_plain(text):
+    """Whether a text can be handed to the program as a line."""
+    try:
+        return LINE_FEED not in text and not text.endswith(b"\r") and bool(text.decode())
+    except UnicodeDecodeError:
+        return False
 
 
 def shows(text, rules):
@@ -368,12 +396,12 @@ def shows(text, rules):
 
 def self_test(args):
     """Prints the first text that shows each wrong rule; the exit status is 1 if none does."""
-    drawn, status = [*texts(args)], 0
+    found, status = [*texts(args)], 0
     for rules in names_plants.PLANTS:
         if issubclass(rules, Text) and rules is not names_plants.TagsOfFile:
-            found = next((seed for seed, text in drawn if shows(text, rules)), None)
-            print(f"{rules.__name__}: {'NOT FOUND' if found is None else f'seed {found}'}")
-            status |= found is None
+            first = next((where for where, text in found if shows(text, rules)), None)
+            print(f"{rules.__name__}: {first or 'NOT FOUND'}")
+            status |= first is None
     return status
 
 
@@ -383,6 +411,7 @@ def main() -> int:
     parser.add_argument("--first", type=int, default=1, help="the seed of the first text")
     parser.add_argument("--bytes", type=int, default=300, help="of the longest text that is taken")
     parser.add_argument("--most", type=int, default=2, help="how many are shown of each kind")
+    parser.add_argument("--sources", type=pathlib.Path, help="a folder of C files")
     parser.add_argument("--self-test", action="store_true")
     args = parser.parse_args()
     if args.self_test:
@@ -390,12 +419,12 @@ def main() -> int:
     found, taken, asked = collections.Counter(), 0, 0
     with tempfile.TemporaryDirectory() as folder:
         program = Program(folder)
-        for seed, text in texts(args):
+        for where, text in texts(args):
             taken, asked = taken + 1, asked + len(Expected(text).asked())
             for kind in differences(program, text):
                 found[kind] += 1
                 if found[kind] <= args.most:
-                    print(f"seed {seed}: ", end="")
+                    print(f"{where}: ", end="")
                     report(program, text, kind)
         program.end()
     print(f"{taken} texts, {asked} names asked for, {found.total()} differences")
