@@ -4,7 +4,8 @@ use cb_names::{Access, LocalUse, local_at};
 use cb_scan::Span;
 use std::test::Fail;
 
-/// What is done with a name, by a letter; in capitals if the token declares it.
+/// What is done with a name, by a letter: `N` if it is only declared, `W` if its declaration has a
+/// value.
 fn letter(one: LocalUse) -> u8 {
     match one.access {
         Access::Named => b'N',
