@@ -438,14 +438,15 @@ class Text:
     # ---- braces, statements and loops of a function
 
     def walk(self, function):
-        """Finds the blocks, loops, statements and labels of a function, in one pass."""
+        """Finds the blocks, loops, statements and labels of a function, in one pass. A `for` counts
+        in its head as well."""
         code = self.code
         self.scopes.append(Scope("function", function.start, function.last))
         begins = set()  # the tokens that begin a statement
         cases = {}  # of each block the cases whose `:` is to come, by the `?` that are open
-        for index in range(function.brace, function.last + 1):
+        for index in range(function.start, function.last + 1):
             text, around = code.text(index), code.around[index]
-            if text == b"{":
+            if text == b"{" and index >= function.brace:
                 is_first = index == function.brace
                 self.kinds[index] = "block" if is_first else self.kind_of_brace(index)
                 if self.kinds[index] == "block":
@@ -456,7 +457,7 @@ class Text:
                 opened = code.following(index)
                 begins.add(code.following(opened))
                 self.scopes.append(Scope("for", opened, self.end_of_for(function, index, opened)))
-            if self.kinds.get(around) != "block" or index == function.brace:
+            if self.kinds.get(around) != "block" or index <= function.brace:
                 continue
             if self.ends_statement(index, cases):
                 begins.add(code.following(index))
@@ -593,7 +594,7 @@ class Text:
 
     def items(self, start, end):
         """The tokens of a declaration without attributes and the groups of `typeof`; a pair of
-        braces is one."""
+        braces is one, and an open brace stands for all up to the end."""
         code, tokens, index, found = self.code, self.code.tokens, start, []
         while index < end:
             token, brace, last = tokens[index], None, index
@@ -602,8 +603,8 @@ class Text:
             elif token.is_word and wide_model.begins_attribute(tokens, index):
                 index = wide_model.end_of_attribute(tokens, index)
                 continue
-            elif token.text == b"{" and code.pair[index] >= 0:
-                last = code.pair[index]
+            elif token.text == b"{":
+                last = code.pair[index] if code.pair[index] >= 0 else end
                 brace = Brace(index, last, b"", None)
             found.append(Item(token, brace, False, True))
             index = last + 1
@@ -671,12 +672,12 @@ class Text:
         if code.text(own) == b")":
             own = following(own)
         is_own = code.text(own) == b"(" and 0 <= code.pair[own] < function.brace
-        outer, count, index = [], 0, following(function.start - 1)
+        heads = range(function.start, function.brace)
+        outer, index = [], following(function.start - 1)
         while index < function.brace:
-            text = code.text(index)
-            if text == b"(" and count == 0 and 0 <= code.pair[index] < function.brace:
+            is_level = code.around[index] not in heads
+            if code.text(index) == b"(" and is_level and 0 <= code.pair[index] < function.brace:
                 outer.append(index)
-            count += (text in (b"(", b"[")) - (text in (b")", b"]") and count > 0)
             index = following(index)
         if not is_own:
             return outer
@@ -702,24 +703,34 @@ class Text:
         return name_of(part)
 
     def declare_parameters(self, function):
-        """Declares the parameters of a function in its scope."""
+        """Declares the parameters of a function in its scope. In the old style the lists of its
+        declarations are scopes."""
         lists = self.lists_of_function(function)
+        self.lists.difference_update(lists)
+        if function.is_old and lists:
+            self.declare_old(function, lists[0])
         for opened in lists:
-            for part in self.declare_list(opened, "function"):
-                self.declare_lists(part)
-        if not function.is_old or not lists:
-            return
-        for start, end in self.parts_of_list(lists[0]):
+            if opened not in self.lists:
+                self.lists.add(opened)
+                for part in self.declare_list(opened, "function"):
+                    self.declare_lists(part)
+
+    def declare_old(self, function, own):
+        """Declares the parameters of the old style: names alone, and declarations."""
+        self.lists.add(own)
+        for part in self.declare_list(own, "function"):
+            self.declare_lists(part)
+        for start, end in self.parts_of_list(own):
             items = self.items(start, end)
             if len(items) == 1 and items[0].is_name:
                 self.declare(items[0].token, "function")
-        start = self.code.pair[lists[0]] + 1
+        start = self.code.pair[own] + 1
         for index in range(start, function.brace):
             if self.code.text(index) == b";":
-                for part in self.parts_between(start, index):
+                for part in self.parts_between(start, self.end_of_declaration(start)):
                     name = self.name_of_parameter(part)
                     if name:
-                        self.declare(name.token, "function", has_value=part.has_value)
+                        self.declare(name.token, "innermost", has_value=part.has_value)
                     self.declare_lists(part)
                 start = index + 1
 
@@ -869,11 +880,11 @@ class Text:
         thing = self.bound[place]
         if thing.kind == "label":
             return "t"
-        end = stream.behind_indexes(index + 1)
+        end = stream.behind_indexes(stream.following(index))
         if is_definition or self.declares(stream, index):
             return "w" if self.is_given(stream, index, end) else "t"
         start = self.start_of_chain(stream, index)
-        befores = {index - 1, start - 1}
+        befores = {stream.before(index), stream.before(start)}
         is_stepped = self.is_step(stream, end)
         is_accessor = stream.is_arrow(end) or stream.is_dot(end)
         if any(stream.text(one) == b"*" for one in befores) and not is_stepped:

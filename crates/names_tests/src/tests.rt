@@ -1,1 +1,2 @@
 mod labels;
+mod locals;

@@ -4,7 +4,7 @@ use cb_scan::{Source, Span};
 use std::test::Fail;
 
 /// A source.
-fn source_of(rt: &HostRuntime, text: &[u8]) -> Result<Source, Fail> {
+pub(crate) fn source_of(rt: &HostRuntime, text: &[u8]) -> Result<Source, Fail> {
     Ok(Source::new(rt.alloc(), text.to_vec(rt.alloc())?)?)
 }
 
@@ -44,8 +44,8 @@ fn a_label_is_named_in_its_function_alone(rt: HostRuntime) -> Result<(), Fail> {
     }
     assert!(rt; names(&rt, text, 65, Some(70), &[65, 70])?);
     // A parameter, and what is returned.
-    assert!(rt; names(&rt, text, 10, None, &[])?);
-    assert!(rt; names(&rt, text, 39, None, &[])?);
+    assert!(rt; names(&rt, text, 10, Some(10), &[10, 39])?);
+    assert!(rt; names(&rt, text, 39, Some(10), &[10, 39])?);
     Ok(())
 }
 
@@ -59,10 +59,9 @@ fn labels_begin_statements(rt: HostRuntime) -> Result<(), Fail> {
     // In an inner block, and behind one.
     assert!(rt; names(&rt, text, 75, Some(75), &[75])?);
     assert!(rt; names(&rt, text, 93, Some(93), &[93])?);
-    // The parts of a conditional, and the constant of a case.
-    for other in [107, 23] {
-        assert!(rt; names(&rt, text, other, None, &[])?);
-    }
+    // A part of a conditional, and a parameter.
+    assert!(rt; names(&rt, text, 107, None, &[])?);
+    assert!(rt; names(&rt, text, 23, Some(10), &[10, 23, 86, 103])?);
     Ok(())
 }
 
