@@ -1,5 +1,5 @@
-use Rattle.std.proofs.Common.{subst, sym, false}
-use Rattle.std.specs.Prelude.{None, Some}
+use Rattle.std.proofs.Common.{◌∙◌, ap, subst, sym, false}
+use Rattle.std.specs.Prelude.{Some}
 use Rattle.cb_tags.specs.Writing.{Puts}
 use Rattle.cb_wire.specs.Messages.{id_json}
 use Rattle.cb_wire.specs.Texts.{frame}
@@ -21,7 +21,7 @@ returns-in-Ok-None g c =
           (frame (value_text (result_unless false (id_json c.args.id)
           (name_answer (client_in f.forms) w f.name.now f.source.now o
           (word_at f.source.now c.args.place) c.args.question)))))
-          c.in-Ok-None.ensures.local
+          (sym c.in-Ok-None.field-0-is ∙ c.in-Ok-None.ensures.local)
           (subst (λ o. Puts c.args.out.now call.new.out call.result
           (frame (value_text (result_reply (id_json c.args.id)
           (word_answer (client_in f.forms) w f.name.now f.source.now o c.args.question)))))
@@ -38,7 +38,8 @@ returns-in-Ok-Some g c =
           (frame (value_text (result_unless false (id_json c.args.id)
           (name_answer (client_in f.forms) w f.name.now f.source.now o
           (word_at f.source.now c.args.place) c.args.question)))))
-          c.in-Ok-Some.ensures.local
+          (ap Some c.in-Ok-Some.own-is ∙ sym c.in-Ok-Some.field-0-is
+          ∙ c.in-Ok-Some.ensures.local)
           (subst (λ o. Puts c.args.out.now call.new.out call.result
           (frame (value_text (result_reply (id_json c.args.id)
           (local_answer (client_in f.forms) f.name.now f.source.now c.in-Ok-Some.own o

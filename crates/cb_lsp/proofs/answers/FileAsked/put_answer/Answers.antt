@@ -64,6 +64,6 @@ returns-in-Completions g c =
           (subst (λ word. Puts c.args.out.now call.new.out call.result
           (frame (value_text (result_reply (id_json c.args.id) (completions_before w word)))))
           (c.word_before.ensures
-          ∙ ap (word_before f.source.now) c.place-in-Completions.ensures.value)
+          ∙ ap (word_before f.source.now) c.place-place.ensures.value)
           call.ensures),
     )

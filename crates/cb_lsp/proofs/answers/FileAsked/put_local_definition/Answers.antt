@@ -22,7 +22,7 @@ returns-in-Some g c =
     (location_of f.forms.root.now f.name.now r ∷ []))))))
     c.range_of.ensures
     (call.ensures (location_of f.forms.root.now f.name.now c.range_of.result ∷ [])
-    (ap (map location_text) c.as_slice.ensures.value)))
+    (ap (map location_text) c.as_slice.ensures)))
 
 pub returns-in-None : goal.returns-in-None
 returns-in-None g c =

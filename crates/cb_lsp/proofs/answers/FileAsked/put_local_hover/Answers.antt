@@ -26,7 +26,7 @@ returns-in-Some g c =
     (frame (value_text (result_reply (id_json c.args.id) (hover_of t c.range_of-range.result)))))
     (append-nil shown)
     (call.ensures (shown ∷ [])
-    (ap (map hover_element) c.as_slice.ensures.value ∙ ap (λ t. t ∷ []) c.at_place-line.ensures))))
+    (ap (map hover_element) c.as_slice.ensures ∙ ap (λ t. t ∷ []) c.at_place-line.ensures))))
 
 pub returns-in-None : goal.returns-in-None
 returns-in-None g c =

@@ -1,14 +1,9 @@
-use Rattle.std.proofs.Common.{◌∙◌, ap, subst, false, true}
-use Rattle.std.specs.Prelude.{None, Option}
+use Rattle.std.proofs.Common.{◌∙◌, ap, subst, sym, false, true}
 use Rattle.cb_names.specs.Labels.{local_at}
-use Rattle.cb_names.specs.Locals.{LocalName}
-use Rattle.cb_scan.specs.declared.lex.piece.Span.{Span}
 use Rattle.cb_lsp.specs.Bodies.{Replies}
 use Rattle.cb_wire.specs.Messages.{id_json}
-use Rattle.cb_wire.specs.Positions.{place}
 use Rattle.cb_lsp.specs.Messages.{reply_unless}
 use Rattle.cb_lsp.specs.Renames.{if_renamable, renamable_at, renamed_word}
-use Rattle.cb_lsp.specs.Words.{word_at}
 use Rattle.cb_lsp.specs.steps.Located.{client_in}
 use Rattle.cb_lsp.specs.steps.Renames.{work_in}
 use Rattle.cb_lsp.proofs.Notices.{quiet}
@@ -21,16 +16,15 @@ returns-in-Ok-None g c =
     let text = f.asked.source.now in
     let word = c.put_word.ensures in
     let is = c.renamable-word.ensures ∙ ap (if_renamable w text) c.word_at.ensures
-    ∙ (λ i. renamable_at w text c.place-place.result (c.in-Ok-None.ensures.local i))
+    ∙ ap (renamable_at w text c.place-place.result)
+    (sym c.in-Ok-None.field-0-is ∙ c.in-Ok-None.ensures.local)
     ∙ ap (λ at. renamable_at w text at (local_at text at)) c.place-place.ensures.value in (
       false,
-      (
-        word.0,
-        subst (λ x. Replies (g.D.Disk.finds c.args.disk.now) (reply_unless false
-            (id_json c.args.id) (renamed_word word.0 (client_in f.asked.forms) (work_in f)
-            f.asked.name.now text f.new_name.now x)) c.args.out.now c.put_word.new.out
-            c.put_word.result) is word.1,
-      ),
+      word.0,
+      subst (λ x. Replies (g.D.Disk.finds c.args.disk.now) (reply_unless false
+          (id_json c.args.id) (renamed_word word.0 (client_in f.asked.forms) (work_in f)
+          f.asked.name.now text f.new_name.now x)) c.args.out.now c.put_word.new.out
+          c.put_word.result) is word.1,
     )
 
 pub returns-in-Ok-Some : goal.returns-in-Ok-Some
@@ -40,17 +34,16 @@ returns-in-Ok-Some g c =
     let text = f.asked.source.now in
     let call = c.put_word-in-Ok-Some in
     let word = call.ensures in
-    let is = (λ i. renamable_at w text c.place-place.result (c.in-Ok-Some.ensures.local i))
+    let is = ap (renamable_at w text c.place-place.result)
+    (sym c.in-Ok-Some.field-0-is ∙ c.in-Ok-Some.ensures.local)
     ∙ ap (λ at. renamable_at w text at (local_at text at)) c.place-place.ensures.value in (
       false,
-      (
-        word.0,
-        subst (λ x. Replies (g.D.Disk.finds c.args.disk.now) (reply_unless false
-            (id_json c.args.id) (renamed_word word.0 (client_in f.asked.forms) (work_in f)
-            f.asked.name.now text f.new_name.now x)) c.args.out.now call.new.out call.result)
-            is word.1,
-      ),
+      word.0,
+      subst (λ x. Replies (g.D.Disk.finds c.args.disk.now) (reply_unless false
+          (id_json c.args.id) (renamed_word word.0 (client_in f.asked.forms) (work_in f)
+          f.asked.name.now text f.new_name.now x)) c.args.out.now call.new.out call.result)
+          is word.1,
     )
 
 pub returns : goal.returns
-returns g c = (true, (quiet, (c.put_refusal.ensures, tt)))
+returns g c = (true, quiet, (c.put_refusal.ensures, tt))
