@@ -122,8 +122,9 @@ def symbol(words: str) -> str:
 
 
 def mark(place: str) -> str:
-    """LINE:FROM-TO, marked."""
-    return '{"range":%s}' % span(*place.split(":"))
+    """LINE:FROM-TO, marked, or LINE:FROM-TO=KIND."""
+    place, _, kind = place.partition("=")
+    return '{"range":%s%s}' % (span(*place.split(":")), kind and ',"kind":' + kind)
 
 
 def completions(names: list[str], more: bool = False) -> str:

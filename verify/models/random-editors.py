@@ -80,6 +80,7 @@ DEFINING = [
     "typedef struct {} {{ int a; }} {};\r\n", "enum {} {{ A }}; /* \U0001f600 */ {} x;\n",
     "int {}(void) {{ /*" + "\u00e9\U0001f600x" * 60 + "*/ return {}(1); }}\n",
     " \tint " + "x" * 256 + "(void) {{ /*\U0001f600" + "\u0301" * 80 + "*/ return {}(2); }}\n",
+    "int {}(void) {{ goto {}; {}: ; }}\n", "\tgoto {}; /*\U0001f600*/ goto {};\n", "{}:\n{}: ;\n",
 ]
 MARK = b"\xef\xbb\xbf"
 HALVES = ["\ud83d", "\ude00", "\udbff\udfff", "\ude00\ud83d", "\\ud83d\ud83d", "\\\\\ud800f"]

@@ -14,6 +14,7 @@ import re
 import sys
 from typing import Callable, NamedTuple, Optional
 
+import names_model
 import text_model
 import wide_model
 from disk_model import GONE, LINKED, UNREADABLE, Disk
@@ -347,6 +348,32 @@ def word_at(text, place):
     word = text[start:end]
     is_name = word and not word[:1].isdigit() and word not in RESERVED
     return (start, end) if is_name else None
+
+
+class Label(NamedTuple):
+    """A label: its name, where its function has it, and all places that name it."""
+
+    name: bytes
+    defined: list[int]
+    uses: list[int]
+
+
+@functools.lru_cache(maxsize=512)
+def names_of(text):
+    return names_model.Text(text)
+
+
+def label_at(text, place):
+    """The label that the name at a place names, or none."""
+    if b"goto" not in text and b":" not in text:
+        return None
+    names = names_of(text)
+    token = names.token_at(place)
+    thing = token and names.binding(token.place)
+    if thing is None or thing.kind != "label":
+        return None
+    uses = [it for it, _ in names.uses(thing)]
+    return Label(token.text, names.definitions.get(thing, []), uses)
 
 
 @functools.lru_cache(maxsize=4096)
@@ -820,6 +847,10 @@ class Server:
         """The range of a name that begins at a place of a file."""
         return range_form(self.world.files[file], place, place + len(name), self.is_utf16)
 
+    def spans_of(self, file, name, places):
+        """Where a name is that begins at places of a file."""
+        return listed(self.location(file, self.span_of(file, it, name)) for it in places)
+
     def range_of(self, place):
         return self.span_of(place.file, place.definition.place, place.definition.name)
 
@@ -862,6 +893,9 @@ class Server:
         if name is not None:
             zero = b'{"start":%s,"end":%s}' % ((position_form((0, 0)),) * 2)
             return listed(self.location(it, zero) for it in self.files_of_header(file, name))
+        label = label_at(text, place)
+        if label is not None:
+            return self.spans_of(file, label.name, label.defined[:1])
         word = word_at(text, place)
         meant = self.meant(file, text[word[0] : word[1]]) if word else []
         return listed(self.location(it.file, self.range_of(it)) for it in meant)
@@ -878,14 +912,18 @@ class Server:
         word = word_at(text, place)
         if file is None or word is None:
             return b"null"
-        meant = self.meant(file, text[word[0] : word[1]])[:MOST_HOVERED]
-        if not meant:
+        label = label_at(text, place)
+        if label is not None:
+            lines = [(file, text.count(b"\n", 0, it) + 1) for it in label.defined[:1]]
+        else:
+            meant = self.meant(file, text[word[0] : word[1]])[:MOST_HOVERED]
+            lines = [(it.file, it.definition.line) for it in meant]
+        if not lines:
             return b"null"
         rows = []
-        for it in meant:
-            line = it.definition.line
-            row = cut_lines(self.world.files[it.file])[line - 1][0].lstrip(b" \t")
-            rows.append(b"%s:%d\n%s" % (it.file, line, cut(row, MOST_LINE)))
+        for other, line in lines:
+            row = cut_lines(self.world.files[other])[line - 1][0].lstrip(b" \t")
+            rows.append(b"%s:%d\n%s" % (other, line, cut(row, MOST_LINE)))
         contents = b'{"kind":"plaintext","value":%s}' % quoted(b"\n\n".join(rows))
         span = range_form(text, *word, self.is_utf16)
         return b'{"contents":%s,"range":%s}' % (contents, span)
@@ -895,6 +933,10 @@ class Server:
         file, text, place = self.asked(params)
         if file is None:
             return b"null"
+        label = label_at(text, place)
+        if label is not None:
+            uses = [it for it in label.uses if is_wanted or it not in label.defined]
+            return self.spans_of(file, label.name, uses)
         word = word_at(text, place)
         name = text[word[0] : word[1]] if word else None
         named = self.named(name)[0]
@@ -910,7 +952,7 @@ class Server:
     def renamable(self, params):
         """The file of a request, its text, and the word at its place, if that may be renamed."""
         file, text, place = self.asked(params)
-        word = None if file is None else word_at(text, place)
+        word = None if file is None or label_at(text, place) else word_at(text, place)
         if word is not None:
             name = text[word[0] : word[1]]
             used = (word[0], name) in [(it.place, it.name) for it in self.facts(text).uses]
@@ -974,6 +1016,10 @@ class Server:
         file, text, place = self.asked(params)
         if file is None:
             return b"null"
+        label = label_at(text, place)
+        if label is not None:
+            spans = (self.span_of(file, it, label.name) for it in label.uses)
+            return listed(b'{"range":%s,"kind":1}' % it for it in spans)
         word = word_at(text, place)
         name = text[word[0] : word[1]] if word else None
         found = [it.place for it in self.facts(text).uses if it.name == name]
@@ -1010,7 +1056,7 @@ class Server:
     def prepare_calls(self, params):
         file, text, place = self.asked(params)
         word = word_at(text, place)
-        if file is None or word is None:
+        if file is None or word is None or label_at(text, place):
             return b"null"
         meant = self.callable(file, text[word[0] : word[1]])
         return listed(self.item(it) for it in meant) if meant else b"null"

@@ -6,6 +6,7 @@ use Rattle.std.specs.Option.{option_map}
 use Rattle.json.specs.Json.{Json, array, null}
 use Rattle.cb_desk.specs.Scanned.{ScannedText, scanned_by, scanned_named}
 use Rattle.cb_desk.specs.World.{File, World, has_file, text_of_file}
+use Rattle.cb_names.specs.Labels.{local_at}
 use Rattle.cb_scan.specs.Profiles.{facts_in}
 use Rattle.cb_scan.specs.declared.profile.Profile.{Profile}
 use Rattle.cb_tags.specs.Writers.{Writer}
@@ -20,7 +21,7 @@ use Rattle.cb_lsp.specs.Answers.{answer_in, answer_named, answer_reply, name_of_
 use Rattle.cb_lsp.specs.Bodies.{Replies}
 use Rattle.cb_lsp.specs.Clients.{Client}
 use Rattle.cb_lsp.specs.Documents.{Document, Looked, Oracle, later}
-use Rattle.cb_lsp.specs.Messages.{Serving, asked_reply, result_unless}
+use Rattle.cb_lsp.specs.Messages.{Serving, asked_reply, reply_unless, result_unless}
 use Rattle.cb_lsp.specs.Questions.{Asked, folds, in_file, incoming, outgoing, rename}
 use Rattle.cb_lsp.specs.Questions.{workspace_symbols}
 use Rattle.cb_lsp.specs.Renames.{Answered, no_definition, renamable_at, renamed_at, renamed_word}
@@ -60,17 +61,17 @@ facts-there here held world name t found here-is held-is =
     ∙ ap (λ (w : World). facts_in w.profile t.bytes) (here-is ∙ sym held-is)
 
 -- the file is there
-pub puts-there : {A E : Type 0} (s inside : Serving) (here held : World) (c : Client)
-    (name : List ℕ) (t : ScannedText) (question : FileQuestion) (id : Json)
+pub puts-there : {A E : Type 0} (no_memory : Bool) (s inside : Serving) (here held : World)
+    (c : Client) (name : List ℕ) (t : ScannedText) (question : FileQuestion) (id : Json)
     (before after : Writer) (r : Result A E)
     → inside ≡ s → Some t ≡ scanned_named here.profile here.files name
     → here ≡ inside.work.world → held ≡ inside.work.world → c ≡ s.client
     → Puts before after r
-    (frame (value_text (result_reply id (answer_in c held name t.bytes question))))
-    → Puts before after r (frame (value_text (result_reply id
+    (frame (value_text (result_unless no_memory id (answer_in c held name t.bytes question))))
+    → Puts before after r (frame (value_text (result_unless no_memory id
     (answer_named s.client s.work.world question (Some name)))))
-puts-there s inside here held c name t question id before after r is found here-is held-is c-is
-    put =
+puts-there no_memory s inside here held c name t question id before after r is found here-is held-is
+    c-is put =
     let file = there here.profile here.files name t found in
     let named : (if true then answer_in inside.client inside.work.world name
     (text_of_file inside.work.world.files name) question else null)
@@ -87,7 +88,7 @@ puts-there s inside here held c name t question id before after r is found here-
     (file.1 ∙ ap (λ (w : World). text_of_file w.files name) here-is)
     ∙ named
     ∙ ap (λ (x : Serving). answer_named x.client x.work.world question (Some name)) is in
-    subst (λ j. Puts before after r (frame (value_text (result_reply id j)))) same put
+    subst (λ j. Puts before after r (frame (value_text (result_unless no_memory id j)))) same put
 
 missing : (p : Profile) (files : List File) (name : List ℕ)
     → None ≡ scanned_named p files name → has_file files name ≡ false
@@ -104,7 +105,7 @@ pub puts-missing : {A E : Type 0} (s inside : Serving) (here : World) (name : Li
     (question : FileQuestion) (id : Json) (before after : Writer) (r : Result A E)
     → inside ≡ s → None ≡ scanned_named here.profile here.files name → here ≡ inside.work.world
     → Puts before after r (frame (value_text (result_reply id null)))
-    → Puts before after r (frame (value_text (result_reply id
+    → Puts before after r (frame (value_text (result_unless false id
     (answer_named s.client s.work.world question (Some name)))))
 puts-missing s inside here name question id before after r is found here-is put =
     let none = ap (λ (w : World). has_file w.files name) (sym (here-is
@@ -113,32 +114,6 @@ puts-missing s inside here name question id before after r is found here-is put 
     ap (λ b. if b then answer_in s.client s.work.world name
     (text_of_file s.work.world.files name) question else null) (sym none) in
     subst (λ j. Puts before after r (frame (value_text (result_reply id j)))) same put
-
--- ---- the file of a URI
-
-pub puts-named : {A E : Type 0} (s : Serving) (uri path name : List ℕ)
-    (question : FileQuestion) (id : Json) (before after : Writer) (r : Result A E)
-    → Some path ≡ path_of uri → name ≡ name_below s.client.root.path path
-    → Puts before after r (frame (value_text (result_reply id
-    (answer_named s.client s.work.world question (Some name)))))
-    → Puts before after r
-    (frame (value_text (asked_reply (only false) s id (Ok (in_file uri question))).message))
-puts-named s uri path name question id before after r found is put =
-    let same : Some name ≡ name_of_uri s.client uri =
-    ap Some is ∙ ap (option_map (name_below s.client.root.path)) found in
-    subst (λ n. Puts before after r
-    (frame (value_text (result_reply id (answer_named s.client s.work.world question n))))) same put
-
-pub puts-nowhere : {A E : Type 0} (s : Serving) (uri : List ℕ) (question : FileQuestion)
-    (id : Json) (before after : Writer) (r : Result A E) → None ≡ path_of uri
-    → Puts before after r (frame (value_text (result_reply id null)))
-    → Puts before after r
-    (frame (value_text (asked_reply (only false) s id (Ok (in_file uri question))).message))
-puts-nowhere s uri question id before after r none put =
-    let same : None ≡ name_of_uri s.client uri =
-    ap (option_map (name_below s.client.root.path)) none in
-    subst (λ n. Puts before after r
-    (frame (value_text (result_reply id (answer_named s.client s.work.world question n))))) same put
 
 -- ---- what is told of a file, unless memory is refused
 
@@ -179,24 +154,35 @@ puts-of-none told asked s uri id before after r none tells put =
     (ap (λ n. result_unless false id (told s.client s.work.world n))
     (ap (option_map (name_below s.client.root.path)) none) ∙ tells) put
 
+-- the answer to a question about it
+pub answer-tells : (no_memory : Bool) (s : Serving) (id : Json) (uri : List ℕ)
+    (question : FileQuestion)
+    → Tells (λ c w file. answer_named c w question file) no_memory s id uri (in_file uri question)
+answer-tells true s id uri question = refl
+answer-tells false s id uri question = refl
+
 -- ---- a name is changed
 
 -- the file is there
-pub puts-renamed-there : {A E : Type 0} (finds : Looked → Type 0) (o : Oracle) (s inside : Serving) (here held : World)
-    (ds : List Document) (c : Client) (name : List ℕ) (t : ScannedText) (p : Position)
-    (new : List ℕ) (id : Json) (before after : Writer) (r : Result A E)
+pub puts-renamed-there : {A E : Type 0} (finds : Looked → Type 0) (no_memory : Bool) (o : Oracle)
+    (s inside : Serving) (here held : World) (ds : List Document) (c : Client) (name : List ℕ)
+    (t : ScannedText) (p : Position) (new : List ℕ) (id : Json) (before after : Writer)
+    (r : Result A E)
     → inside ≡ s → Some t ≡ scanned_named here.profile here.files name
     → here ≡ inside.work.world → held ≡ inside.work.world → ds ≡ inside.work.documents
     → c ≡ s.client
-    → Replies finds (reply_with id (renamed_word o c (record { world = held; documents = ds }) name
-    t.bytes new (renamable_at held t.bytes (place c.encoding t.bytes p)))) before after r
-    → Replies finds (reply_with id (renamed_at o s.client s.work p new (Some name))) before after r
-puts-renamed-there finds o s inside here held ds c name t p new id before after r is found here-is held-is
-    ds-is c-is put =
+    → Replies finds (reply_unless no_memory id (renamed_word o c
+    (record { world = held; documents = ds }) name t.bytes new
+    (let at = place c.encoding t.bytes p in renamable_at held t.bytes at (local_at t.bytes at))))
+    before after r
+    → Replies finds (reply_unless no_memory id
+    (renamed_at o s.client s.work p new (Some name))) before after r
+puts-renamed-there finds no_memory o s inside here held ds c name t p new id before after r is found
+    here-is held-is ds-is c-is put =
     let file = there here.profile here.files name t found in
     let told : Client → World → List Document → List ℕ → Answered =
     λ k w d b. renamed_word o k (record { world = w; documents = d }) name b new
-    (renamable_at w b (place k.encoding b p)) in
+    (let at = place k.encoding b p in renamable_at w b at (local_at b at)) in
     let w = inside.work.world in
     let d = inside.work.documents in
     let named : told inside.client w d (text_of_file w.files name)
@@ -212,14 +198,15 @@ puts-renamed-there finds o s inside here held ds c name t p new id before after 
     (file.1 ∙ ap (λ (x : World). text_of_file x.files name) here-is)
     ∙ named
     ∙ ap (λ (x : Serving). renamed_at o x.client x.work p new (Some name)) is in
-    subst (λ a. Replies finds (reply_with id a) before after r) same put
+    subst (λ a. Replies finds (reply_unless no_memory id a) before after r) same put
 
 -- there is no such file
 pub puts-renamed-missing : {A E : Type 0} (finds : Looked → Type 0) (o : Oracle) (s inside : Serving) (here : World) (name : List ℕ)
     (p : Position) (new : List ℕ) (id : Json) (before after : Writer) (r : Result A E)
     → inside ≡ s → None ≡ scanned_named here.profile here.files name → here ≡ inside.work.world
     → Puts before after r (frame (value_text (answer_reply id (Err no_definition))))
-    → Replies finds (reply_with id (renamed_at o s.client s.work p new (Some name))) before after r
+    → Replies finds (reply_unless false id
+    (renamed_at o s.client s.work p new (Some name))) before after r
 puts-renamed-missing finds o s inside here name p new id before after r is found here-is put =
     let w = s.work.world in
     let text = text_of_file w.files name in
@@ -227,23 +214,24 @@ puts-renamed-missing finds o s inside here name p new id before after r is found
     ∙ ap (λ (x : Serving). x.work.world) is)) ∙ missing here.profile here.files name found in
     let same : without_reading (Err no_definition) ≡ renamed_at o s.client s.work p new (Some name) =
     ap (λ b. if b then renamed_word o s.client s.work name text new
-    (renamable_at w text (place s.client.encoding text p)) else without_reading (Err no_definition))
+    (let at = place s.client.encoding text p in renamable_at w text at (local_at text at))
+    else without_reading (Err no_definition))
     (sym none) in
     subst (λ a. Replies finds (reply_with id a) before after r) same (put, tt)
 
 -- the file of a URI
-pub puts-renamed : {A E : Type 0} (finds : Looked → Type 0) (o : Oracle) (s : Serving) (uri path name : List ℕ) (p : Position)
-    (text new : List ℕ) (id : Json) (before after : Writer) (r : Result A E)
+pub puts-renamed : {A E : Type 0} (finds : Looked → Type 0) (no_memory : Bool) (o : Oracle)
+    (s : Serving) (uri path name : List ℕ) (p : Position) (text new : List ℕ) (id : Json)
+    (before after : Writer) (r : Result A E)
     → Some path ≡ path_of uri → name ≡ name_below s.client.root.path path → text ≡ new
-    → Replies finds (reply_with id (renamed_at o s.client s.work p text (Some name))) before after r
-    → Replies finds (asked_reply (behind false o) s id (Ok (rename uri p new))) before after r
-puts-renamed finds o s uri path name p text new id before after r found is text-is put =
+    → Replies finds (reply_unless no_memory id
+    (renamed_at o s.client s.work p text (Some name))) before after r
+    → Replies finds (asked_reply (behind no_memory o) s id (Ok (rename uri p new))) before after r
+puts-renamed finds no_memory o s uri path name p text new id before after r found is text-is put =
     let same : Some name ≡ name_of_uri s.client uri =
     ap Some is ∙ ap (option_map (name_below s.client.root.path)) found in
-    subst (λ t. Replies finds (reply_with id
-    (renamed_at o s.client s.work p t (name_of_uri s.client uri))) before after r) text-is
-    (subst (λ n. Replies finds (reply_with id (renamed_at o s.client s.work p text n)) before after r)
-    same put)
+    subst (λ a. Replies finds (reply_unless no_memory id a) before after r)
+    (λ i. renamed_at o s.client s.work p (text-is i) (same i)) put
 
 pub puts-renamed-nowhere : {A E : Type 0} (finds : Looked → Type 0) (s : Serving) (uri : List ℕ)
     (p : Position) (new : List ℕ) (id : Json) (before after : Writer) (r : Result A E)

@@ -9,7 +9,7 @@ use Rattle.cb_wire.specs.Lists.{joined, list_text}
 use Rattle.cb_wire.specs.Values.{range_tree, value_text}
 use Rattle.cb_wire.proofs.Lists.{escape-joined}
 use Rattle.cb_wire.proofs.Printed.{value_text-is, value_text-then}
-use Rattle.cb_lsp.specs.Hovers.{hover_of, hover_text, hover_texts}
+use Rattle.cb_lsp.specs.Hovers.{hover_of, hover_shown}
 use Rattle.cb_lsp.specs.declared.hover.TheConstants.{MOST_HOVERS}
 
 pub take-map : {A B : Type 0} (f : A → B) (n : ℕ) (xs : List A)
@@ -54,22 +54,19 @@ line_feeds : escape (codes "\n\n") ≡ codes "\\n\\n"
 unfolding escape_byte
 line_feeds = refl
 
-texts-escaped : (ts : List Tag)
-    → joined (codes "\\n\\n") (take MOST_HOVERS (map (λ t. escape (hover_text t)) ts))
-    ≡ escape (hover_texts ts)
+texts-escaped : (ts : List (List ℕ))
+    → joined (codes "\\n\\n") (take MOST_HOVERS (map escape ts)) ≡ escape (hover_shown ts)
 texts-escaped ts =
     let first = take MOST_HOVERS ts in
-    ap₂ joined (sym line_feeds)
-    (take-map (λ t. escape (hover_text t)) MOST_HOVERS ts ∙ map-map escape hover_text first)
-    ∙ sym (escape-joined (codes "\n\n") (map hover_text first))
+    ap₂ joined (sym line_feeds) (take-map escape MOST_HOVERS ts)
+    ∙ sym (escape-joined (codes "\n\n") first)
 
-pub hover-written : (ts : List Tag) (r : Range)
+pub hover-written : (xs ts : List (List ℕ)) (r : Range) → xs ≡ map escape ts
     → list_text (codes "{\"contents\":{\"kind\":\"plaintext\",\"value\":\"") (codes "\\n\\n")
-    (codes "\"},\"range\":" ++ (value_text (range_tree r) ++ codes "}"))
-    (take MOST_HOVERS (map (λ t. escape (hover_text t)) ts))
-    ≡ value_text (hover_of (hover_texts ts) r)
-hover-written ts r =
+    (codes "\"},\"range\":" ++ (value_text (range_tree r) ++ codes "}")) (take MOST_HOVERS xs)
+    ≡ value_text (hover_of (hover_shown ts) r)
+hover-written xs ts r e =
     ap (λ t. codes "{\"contents\":{\"kind\":\"plaintext\",\"value\":\"" ++ (t
     ++ (codes "\"},\"range\":" ++ (value_text (range_tree r) ++ codes "}"))))
-    (texts-escaped ts)
-    ∙ sym (hover-printed (hover_texts ts) r)
+    (ap (λ ys. joined (codes "\\n\\n") (take MOST_HOVERS ys)) e ∙ texts-escaped ts)
+    ∙ sym (hover-printed (hover_shown ts) r)

@@ -5,6 +5,10 @@ use Rattle.std.specs.Prelude.{if◌then◌else◌}
 use Rattle.json.specs.Json.{Json, array, null}
 use Rattle.cb_desk.specs.World.{World, has_file, text_of_file}
 use Rattle.cb_index.specs.Rows.{Fact, tags_named, uses_of}
+use Rattle.cb_names.specs.Labels.{local_at}
+use Rattle.cb_names.specs.Locals.{LocalName}
+use Rattle.cb_names.specs.declared.local.LocalUse.{LocalUse}
+use Rattle.cb_scan.specs.declared.facts.Include.{Include}
 use Rattle.cb_scan.specs.declared.facts.Use.{Use}
 use Rattle.cb_scan.specs.declared.lex.piece.Span.{Span}
 use Rattle.cb_scan.specs.lex.Tokens.{bytes_of}
@@ -26,19 +30,21 @@ use Rattle.cb_lsp.specs.Folds.{folds_in}
 use Rattle.cb_lsp.specs.Headers.{header_at, header_files}
 use Rattle.cb_lsp.specs.Highlights as marked
 use Rattle.cb_lsp.specs.Highlights.{highlight}
-use Rattle.cb_lsp.specs.Hovers.{hover_of, hover_texts}
+use Rattle.cb_lsp.specs.Hovers.{hover_at_place, hover_of, hover_texts}
+use Rattle.cb_lsp.specs.Locals.{definition_places, local_mark, token_place, uses_wanted}
 use Rattle.cb_lsp.specs.Meaning.{meaning}
 use Rattle.cb_lsp.specs.Places.{range_of}
 use Rattle.cb_lsp.specs.Outgoing.{outgoing_calls}
 use Rattle.cb_lsp.specs.Questions.{Asked, folds, in_file, incoming, outgoing, rename}
 use Rattle.cb_lsp.specs.Questions.{workspace_symbols}
 use Rattle.cb_lsp.specs.declared.question.FileQuestion.{FileQuestion}
-use Rattle.cb_lsp.specs.declared.question.FileQuestion.TheVariants.{Symbols, Definition, Hover}
-use Rattle.cb_lsp.specs.declared.question.FileQuestion.TheVariants.{Highlights, References}
-use Rattle.cb_lsp.specs.declared.question.FileQuestion.TheVariants.{Callables, PrepareRename}
-use Rattle.cb_lsp.specs.declared.question.FileQuestion.TheVariants.{Completions}
+use Rattle.cb_lsp.specs.declared.question.FileQuestion.TheVariants.{At, Completions, Symbols}
+use Rattle.cb_lsp.specs.declared.question.PlaceQuestion.{PlaceQuestion}
+use Rattle.cb_lsp.specs.declared.question.PlaceQuestion.TheVariants.{Definition, Hover, Highlights}
+use Rattle.cb_lsp.specs.declared.question.PlaceQuestion.TheVariants.{References, PrepareRename}
+use Rattle.cb_lsp.specs.declared.question.PlaceQuestion.TheVariants.{Callables}
 use Rattle.cb_lsp.specs.References.{references}
-use Rattle.cb_lsp.specs.Renames.{Answered, Unrenamed, prepared, renamable_at, renamed_at}
+use Rattle.cb_lsp.specs.Renames.{Answered, Unrenamed, if_renamable, prepared, renamed_at}
 use Rattle.cb_lsp.specs.Renames.{unrenamed_text, without_reading}
 use Rattle.cb_lsp.specs.Searches.{found_by}
 use Rattle.cb_lsp.specs.Symbols.{file_place, file_symbol, place_of, place_of_use}
@@ -54,9 +60,9 @@ abbrev pub some_of : List Json → Json
 some_of [] = null
 some_of (j ∷ js) = list_of (j ∷ js)
 
--- ---- at a place of a file
+-- ---- of a word of a file
 
--- what a word of a file means
+-- what a word means
 abbrev pub word_meaning : World → (name text : List ℕ) → Span → List Tag
 word_meaning w name text word = meaning (tags_named w.profile (bytes_of text word) w.files) name
 
@@ -64,12 +70,6 @@ abbrev pub places_of_word : Client → World → (name text : List ℕ) → Opti
 places_of_word c w name text None = list_of []
 places_of_word c w name text (Some word) =
     list_of (map (place_of c w.files) (word_meaning w name text word))
-
--- where what stands at a place is defined: the files that a header means, or what a word means
-abbrev pub definition_at : Client → World → (name text : List ℕ) → ℕ → Option Span → Json
-definition_at c w name text at None = places_of_word c w name text (word_at text at)
-definition_at c w name text at (Some header) =
-    list_of (map (file_place c) (header_files w.files name (bytes_of text header)))
 
 -- what a hover shows of a word
 abbrev pub hover_over : Client → List ℕ → Span → List Tag → Json
@@ -106,28 +106,74 @@ callables_at c w name text None = null
 callables_at c w name text (Some word) =
     some_of (map (item_of c w.files) (callables (word_meaning w name text word)))
 
+-- ---- at a place of a file
+
+-- a question about a word
+abbrev pub word_answer : Client → World → (name text : List ℕ) → Option Span → PlaceQuestion → Json
+word_answer c w name text word Definition = places_of_word c w name text word
+word_answer c w name text word Hover = hover_at c w name text word
+word_answer c w name text word Highlights =
+    highlights_of c.encoding text (facts_in w.profile text).uses word
+word_answer c w name text word (References declarations) =
+    references_of_word c w name text declarations word
+word_answer c w name text word PrepareRename = prepared c text (if_renamable w text word)
+word_answer c w name text word Callables = callables_at c w name text word
+
+-- what a hover shows of a name with this definition, at a word
+abbrev pub local_hover : Client → (name text : List ℕ) → Span → Option Span → Json
+local_hover c name text word None = null
+local_hover c name text word (Some s) =
+    hover_of (hover_at_place name text s.start) (range_of c.encoding text word.start word.end)
+
+abbrev pub local_hover_at : Client → (name text : List ℕ) → Option Span → Option Span → Json
+local_hover_at c name text None definition = null
+local_hover_at c name text (Some word) definition = local_hover c name text word definition
+
+-- one about a name that means something in its function alone, and about the word there
+abbrev pub local_answer : Client → (name text : List ℕ) → LocalName → Option Span → PlaceQuestion
+    → Json
+local_answer c name text own word Definition =
+    list_of (definition_places c.root c.encoding name text own.definition)
+local_answer c name text own word Hover = local_hover_at c name text word own.definition
+local_answer c name text own word Highlights =
+    list_of (map (local_mark c.encoding text) own.uses)
+local_answer c name text own word (References declarations) =
+    list_of (map (λ (u : LocalUse). token_place c.root c.encoding name text u.name)
+    (uses_wanted declarations own.uses))
+local_answer c name text own word PrepareRename = null
+local_answer c name text own word Callables = null
+
+-- one about a name that may mean something in its function alone
+abbrev pub name_answer : Client → World → (name text : List ℕ) → Option LocalName → Option Span
+    → PlaceQuestion → Json
+name_answer c w name text None word question = word_answer c w name text word question
+name_answer c w name text (Some own) word question = local_answer c name text own word question
+
+-- the header at a place, where a definition is asked for
+abbrev pub header_asked : List Include → (place : ℕ) → PlaceQuestion → Option Span
+header_asked is at Definition = header_at is at
+header_asked is at _ = None
+
+-- one about what stands at a place: a header, of which the files are told that it means, or a name
+abbrev pub place_answer : Client → World → (name text : List ℕ) → (place : ℕ) → Option Span
+    → PlaceQuestion → Json
+place_answer c w name text at (Some header) question =
+    list_of (map (file_place c) (header_files w.files name (bytes_of text header)))
+place_answer c w name text at None question =
+    name_answer c w name text (local_at text at) (word_at text at) question
+
 -- ---- of a file
 
 -- a question about the file of this name and text
 abbrev pub answer_in : Client → World → (name text : List ℕ) → FileQuestion → Json
 answer_in c w name text Symbols =
     list_of (map (file_symbol c name text) (facts_in w.profile text).defs)
-answer_in c w name text (Definition p) =
+answer_in c w name text (At p question) =
     let at = place c.encoding text p in
-    definition_at c w name text at (header_at (facts_in w.profile text).includes at)
-answer_in c w name text (Hover p) =
-    hover_at c w name text (word_at text (place c.encoding text p))
-answer_in c w name text (Highlights p) =
-    highlights_of c.encoding text (facts_in w.profile text).uses
-    (word_at text (place c.encoding text p))
-answer_in c w name text (References p declarations) =
-    references_of_word c w name text declarations (word_at text (place c.encoding text p))
-answer_in c w name text (Callables p) =
-    callables_at c w name text (word_at text (place c.encoding text p))
+    place_answer c w name text at (header_asked (facts_in w.profile text).includes at question)
+    question
 answer_in c w name text (Completions p) =
     completions_before w (word_before text (place c.encoding text p))
-answer_in c w name text (PrepareRename p) =
-    prepared c text (renamable_at w text (place c.encoding text p))
 
 -- the same about a file of this name, if there is one
 abbrev pub answer_named : Client → World → FileQuestion → Option (List ℕ) → Json

@@ -1,5 +1,5 @@
 -- The uses of a word in a file, which an editor marks.
-use Rattle.std.specs.Prelude.{ℕ, List, filter}
+use Rattle.std.specs.Prelude.{ℕ, List, None, filter}
 use Rattle.std.specs.Str.{bytes_eq}
 use Rattle.json.specs.Json.{Json}
 use Rattle.cb_scan.specs.declared.facts.Use.{Use}
@@ -14,4 +14,4 @@ uses_of text name uses = filter (λ (u : Use). bytes_eq (bytes_of text u.name) n
 
 -- the range of a use
 abbrev pub highlight : Encoding → (text : List ℕ) → Use → Json
-highlight e text u = highlight_of (range_of e text u.name.start u.name.end)
+highlight e text u = highlight_of (range_of e text u.name.start u.name.end) None

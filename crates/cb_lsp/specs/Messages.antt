@@ -36,6 +36,7 @@ use Rattle.cb_lsp.specs.Params.{prepares_renames, root_in, takes_trees, takes_ut
 use Rattle.cb_lsp.specs.Params.{text_in, uri_in}
 use Rattle.cb_lsp.specs.Questions.{Asked, asked_by}
 use Rattle.cb_lsp.specs.Refresh.{files_asked, given_anew}
+use Rattle.cb_lsp.specs.Renames.{Answered}
 
 -- a message that was read
 pub data Message : Type 0 where
@@ -187,10 +188,14 @@ abbrev pub unasked_reply : Json → Unasked → Json
 unasked_reply id UnknownMethod = error_reply id MethodNotFound (codes "unknown method")
 unasked_reply id BadParameters = error_reply id InvalidParams (codes "bad parameters")
 
+-- the reply with an answer, unless memory was refused to it
+abbrev pub reply_unless : Bool → (id : Json) → Answered → Replied
+reply_unless true id a = record { message = out_of_memory_reply id; read = [] }
+reply_unless false id a = reply_with id a
+
 -- the reply to a question; memory may be refused to it
 abbrev pub reply_to : Bool → Oracle → Serving → Json → Asked → Replied
-reply_to true o s id asked = record { message = out_of_memory_reply id; read = [] }
-reply_to false o s id asked = reply_with id (answer_to o s.client s.work asked)
+reply_to no_memory o s id asked = reply_unless no_memory id (answer_to o s.client s.work asked)
 
 abbrev pub asked_reply : Oracle → Serving → Json → Result Asked Unasked → Replied
 asked_reply o s id (Err why) = record { message = unasked_reply id why; read = [] }

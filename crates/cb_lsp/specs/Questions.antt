@@ -7,10 +7,11 @@ use Rattle.cb_wire.specs.declared.position.Position.{Position}
 use Rattle.cb_lsp.specs.Params.{declarations_in, item_name, item_start, item_uri, new_name_in}
 use Rattle.cb_lsp.specs.Params.{position_in, query_in, uri_in}
 use Rattle.cb_lsp.specs.declared.question.FileQuestion.{FileQuestion}
-use Rattle.cb_lsp.specs.declared.question.FileQuestion.TheVariants.{Symbols, Definition, Hover}
-use Rattle.cb_lsp.specs.declared.question.FileQuestion.TheVariants.{Highlights, References}
-use Rattle.cb_lsp.specs.declared.question.FileQuestion.TheVariants.{Callables, PrepareRename}
-use Rattle.cb_lsp.specs.declared.question.FileQuestion.TheVariants.{Completions}
+use Rattle.cb_lsp.specs.declared.question.FileQuestion.TheVariants.{At, Completions, Symbols}
+use Rattle.cb_lsp.specs.declared.question.PlaceQuestion.{PlaceQuestion}
+use Rattle.cb_lsp.specs.declared.question.PlaceQuestion.TheVariants.{Definition, Hover, Highlights}
+use Rattle.cb_lsp.specs.declared.question.PlaceQuestion.TheVariants.{References, PrepareRename}
+use Rattle.cb_lsp.specs.declared.question.PlaceQuestion.TheVariants.{Callables}
 use Rattle.cb_lsp.specs.declared.question.Unasked.{Unasked}
 use Rattle.cb_lsp.specs.declared.question.Unasked.TheVariants.{UnknownMethod, BadParameters}
 
@@ -26,16 +27,21 @@ pub data Asked : Type 0 where
   outgoing : (name uri : List ℕ) → Position → Asked
   folds : (uri : List ℕ) → Asked
 
--- a question at a position of a file
-abbrev pub at_place : (Position → FileQuestion) → Option (List ℕ) → Option Position → Option Asked
-at_place question (Some uri) (Some position) = Some (in_file uri (question position))
+-- a question about what stands at a position of a file
+abbrev pub at_place : PlaceQuestion → Option (List ℕ) → Option Position → Option Asked
+at_place question (Some uri) (Some position) = Some (in_file uri (At position question))
 at_place question _ _ = None
+
+-- a question for the names that complete the word before a position
+abbrev pub completing : Option (List ℕ) → Option Position → Option Asked
+completing (Some uri) (Some position) = Some (in_file uri (Completions position))
+completing _ _ = None
 
 -- a question for the uses of what stands at a position, with the names of definitions or without
 abbrev pub uses_at : Option (List ℕ) → Option Position → (declarations : Option Bool) → Option Asked
 uses_at uri position None = None
 uses_at uri position (Some declarations) =
-    at_place (λ p. References p declarations) uri position
+    at_place (References declarations) uri position
 
 -- a question who calls a name that stands in the file of a URI
 abbrev pub calls_to : (name uri : Option (List ℕ)) → Option Asked
@@ -90,5 +96,5 @@ asked_by method params =
     else (if bytes_eq method (codes "textDocument/prepareCallHierarchy")
     then or_bad (at_place Callables (uri_in params) (position_in params))
     else (if bytes_eq method (codes "textDocument/completion")
-    then or_bad (at_place Completions (uri_in params) (position_in params))
+    then or_bad (completing (uri_in params) (position_in params))
     else asked_of_files_by method params)))))))

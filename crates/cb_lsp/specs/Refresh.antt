@@ -18,8 +18,9 @@ use Rattle.cb_lsp.specs.Questions.{Asked, folds, in_file, incoming, outgoing, re
 use Rattle.cb_lsp.specs.Questions.{workspace_symbols}
 use Rattle.cb_lsp.specs.Words.{word_at}
 use Rattle.cb_lsp.specs.declared.question.FileQuestion.{FileQuestion}
-use Rattle.cb_lsp.specs.declared.question.FileQuestion.TheVariants.{Callables, Definition, Hover}
-use Rattle.cb_lsp.specs.declared.question.FileQuestion.TheVariants.{References}
+use Rattle.cb_lsp.specs.declared.question.FileQuestion.TheVariants.{At}
+use Rattle.cb_lsp.specs.declared.question.PlaceQuestion.TheVariants.{Callables, Definition, Hover}
+use Rattle.cb_lsp.specs.declared.question.PlaceQuestion.TheVariants.{References}
 
 -- ---- what is asked about
 
@@ -43,10 +44,10 @@ abbrev pub about : Option (List ℕ) → (uses : Bool) → Sought
 about name uses = record { name = name; uses = uses }
 
 abbrev pub sought_at : Client → World → (uri : List ℕ) → FileQuestion → Sought
-sought_at c w uri (Definition p) = about (word_in_uri c w uri p) false
-sought_at c w uri (Hover p) = about (word_in_uri c w uri p) false
-sought_at c w uri (Callables p) = about (word_in_uri c w uri p) false
-sought_at c w uri (References p declarations) = about (word_in_uri c w uri p) true
+sought_at c w uri (At p Definition) = about (word_in_uri c w uri p) false
+sought_at c w uri (At p Hover) = about (word_in_uri c w uri p) false
+sought_at c w uri (At p Callables) = about (word_in_uri c w uri p) false
+sought_at c w uri (At p (References declarations)) = about (word_in_uri c w uri p) true
 sought_at c w uri _ = about None false
 
 -- of a question whose answer names other files

@@ -8,6 +8,8 @@ use Rattle.std.specs.Str.{bytes_eq}
 use Rattle.json.specs.Json.{Json, null}
 use Rattle.cb_desk.specs.World.{File, World, has_file, text_of_file}
 use Rattle.cb_index.specs.Rows.{Fact, tags_named, uses_of}
+use Rattle.cb_names.specs.Labels.{local_at}
+use Rattle.cb_names.specs.Locals.{LocalName}
 use Rattle.cb_scan.specs.declared.facts.Use.{Use}
 use Rattle.cb_scan.specs.declared.lex.piece.Span.{Span}
 use Rattle.cb_scan.specs.lex.Reserved.{is_name}
@@ -50,9 +52,10 @@ abbrev pub if_renamable : World → (text : List ℕ) → Option Span → Option
 if_renamable w text None = None
 if_renamable w text (Some word) = if may_be_renamed w text word then Some word else None
 
--- the word at a place that may be renamed
-abbrev pub renamable_at : World → (text : List ℕ) → (place : ℕ) → Option Span
-renamable_at w text at = if_renamable w text (word_at text at)
+-- the word at a place that may be renamed: none that means something in its function alone
+abbrev pub renamable_at : World → (text : List ℕ) → (place : ℕ) → Option LocalName → Option Span
+renamable_at w text at None = if_renamable w text (word_at text at)
+renamable_at w text at (Some own) = None
 
 -- its range
 abbrev pub prepared : Client → (text : List ℕ) → Option Span → Json
@@ -228,6 +231,7 @@ abbrev pub renamed_at : Oracle → Client → Work → Position → (new : List 
 renamed_at o c w p new None = without_reading (Err no_definition)
 renamed_at o c w p new (Some name) =
     let text = text_of_file w.world.files name in
+    let at = place c.encoding text p in
     if has_file w.world.files name
-    then renamed_word o c w name text new (renamable_at w.world text (place c.encoding text p))
+    then renamed_word o c w name text new (renamable_at w.world text at (local_at text at))
     else without_reading (Err no_definition)

@@ -13,7 +13,9 @@ use Rattle.cb_lsp.specs.Changes.{part, whole}
 use Rattle.cb_lsp.specs.Params.{are_changes, changes_among, changes_in, has_text, number_in}
 use Rattle.cb_lsp.specs.Params.{prepares_renames, root_in, takes_trees, takes_utf8}
 use Rattle.cb_lsp.specs.Questions.{asked_by, in_file, rename, workspace_symbols}
-use Rattle.cb_lsp.specs.declared.question.FileQuestion.TheVariants.{Hover, PrepareRename, References}
+use Rattle.cb_lsp.specs.declared.question.FileQuestion.TheVariants.{At}
+use Rattle.cb_lsp.specs.declared.question.PlaceQuestion.TheVariants.{Hover, PrepareRename}
+use Rattle.cb_lsp.specs.declared.question.PlaceQuestion.TheVariants.{References}
 use Rattle.cb_lsp.specs.Words.{word_at}
 
 -- an object of one member
@@ -147,7 +149,7 @@ position = object (member (codes "character") (number (codes "5"))
 
 pub what_stands_there : asked_by (codes "textDocument/hover") (Some (object
     (member (codes "textDocument") document (member (codes "position") position no_members))))
-    ≡ Ok (in_file (codes "file:///a.c") (Hover (record { line = 2; character = 5 })))
+    ≡ Ok (in_file (codes "file:///a.c") (At (record { line = 2; character = 5 }) Hover))
 what_stands_there = refl
 
 abbrev uses_asked : (context : Json) → Option Json
@@ -158,7 +160,7 @@ uses_asked context =
 -- uses, without the names of definitions
 pub where_it_is_used : asked_by (codes "textDocument/references")
     (uses_asked (one (codes "includeDeclaration") (boolean false)))
-    ≡ Ok (in_file (codes "file:///a.c") (References (record { line = 2; character = 5 }) false))
+    ≡ Ok (in_file (codes "file:///a.c") (At (record { line = 2; character = 5 }) (References false)))
 where_it_is_used = refl
 
 -- whether these are wanted has to be told
@@ -182,7 +184,7 @@ a_wrong_name = refl
 
 pub what_would_be_renamed : asked_by (codes "textDocument/prepareRename")
     (rename_asked (string [])) ≡ Ok (in_file (codes "file:///a.c")
-    (PrepareRename (record { line = 2; character = 5 })))
+    (At (record { line = 2; character = 5 }) PrepareRename))
 what_would_be_renamed = refl
 
 -- the document is not named at the top

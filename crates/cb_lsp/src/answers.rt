@@ -1,11 +1,13 @@
 //! The answers to questions, as replies.
-ghost use Rattle.std.specs.Prelude.{◌≡◌, ◌≤◌, ◌++◌, MatchOption, List, [], Some, false, length};
-ghost use Rattle.std.specs.Prelude.{map, take, true};
+ghost use Rattle.std.specs.Prelude.{◌≡◌, ◌≤◌, ◌++◌, ℕ, Bool, MatchOption, List, [], Some, false};
+ghost use Rattle.std.specs.Prelude.{length, map, take, true};
 ghost use Rattle.std.specs.List.{list_any};
 ghost use Rattle.json.specs.Json.{Json, array};
+ghost use Rattle.json.specs.Print.{escape};
 ghost use Rattle.cb_desk.specs.World.{has_file};
 ghost use Rattle.cb_index.specs.Rows.{tags_named};
 ghost use Rattle.cb_index.specs.steps.Left.{tag_of_spot};
+ghost use Rattle.cb_names.specs.Labels.{local_at};
 ghost use Rattle.cb_scan.specs.Profiles.{facts_in};
 ghost use Rattle.cb_scan.specs.lex.Tokens.{bytes_of};
 ghost use Rattle.cb_tags.specs.Writing.{Puts};
@@ -16,14 +18,16 @@ ghost use Rattle.cb_wire.specs.Texts.{frame};
 ghost use Rattle.cb_wire.specs.Trees.{result_reply};
 ghost use Rattle.cb_wire.specs.Values.{items_of, value_text};
 ghost use Rattle.cb_wire.specs.declared.list.TheConstants.{MOST_ELEMENTS};
-ghost use Rattle.cb_lsp.specs.Answers.{answer_in, callables_at, definition_at, highlights_of};
-ghost use Rattle.cb_lsp.specs.Answers.{hover_at, hover_over, list_of, places_of_word};
-ghost use Rattle.cb_lsp.specs.Answers.{references_of_word, some_of, word_meaning, word_references};
+ghost use Rattle.cb_lsp.specs.Answers.{answer_in, callables_at, header_asked, highlights_of};
+ghost use Rattle.cb_lsp.specs.Answers.{hover_at, hover_over, list_of, name_answer, place_answer};
+ghost use Rattle.cb_lsp.specs.Answers.{places_of_word, references_of_word, some_of, word_answer};
+ghost use Rattle.cb_lsp.specs.Answers.{word_meaning, word_references};
 ghost use Rattle.cb_lsp.specs.Calls.{callables, item_of};
 ghost use Rattle.cb_lsp.specs.Completions.{completions_before, completions_of};
-ghost use Rattle.cb_lsp.specs.Headers.{folder_of, header_at, header_files};
-ghost use Rattle.cb_lsp.specs.Hovers.{hover_of, hover_texts};
-ghost use Rattle.cb_lsp.specs.Renames.{if_renamable, is_at, is_some_tag, prepared, renamable_at};
+ghost use Rattle.cb_lsp.specs.Headers.{folder_of, header_files};
+ghost use Rattle.cb_lsp.specs.Hovers.{hover_of, hover_shown};
+ghost use Rattle.cb_lsp.specs.Messages.{result_unless};
+ghost use Rattle.cb_lsp.specs.Renames.{if_renamable, is_at, is_some_tag, prepared};
 ghost use Rattle.cb_lsp.specs.Searches.{found_by};
 ghost use Rattle.cb_lsp.specs.Symbols.{file_place, file_symbol, session_symbol};
 ghost use Rattle.cb_lsp.specs.Words.{word_at};
@@ -42,21 +46,22 @@ use crate::hover::{Hovers, MOST_HOVERS};
 use crate::location::{Forms, Located, range_of};
 use crate::meaning::Meaning;
 use crate::place::bytes_of;
-use crate::question::FileQuestion;
+use crate::question::{FileQuestion, PlaceQuestion};
 use crate::references::{References, UsePlaces};
 use crate::symbols::{
     FileDefs, FlatSymbols, HeaderFiles, MOST_SYMBOLS, OneFile, Places, SessionSymbols, TreeSymbols,
     keep_like, next_like,
 };
 use crate::word::{word_at, word_before};
-use crate::written::put_null;
+use crate::written::{put_null, put_refusal};
 use cb_desk::{Desk, Format};
 use cb_index::TagSpot;
+use cb_names::local_at;
 use cb_scan::{Facts, Source, Span};
 use cb_tags::{Sink, WriteFault};
 use cb_wire::{
-    Elements, Id, MOST_ELEMENTS, Part, Range, list_in_memory, place_of_position, put_list_result,
-    put_range_result, put_result,
+    Elements, Id, MOST_ELEMENTS, Part, Position, Range, list_in_memory, place_of_position,
+    put_list_result, put_range_result, put_result,
 };
 use std::alloc::Global;
 use std::io::Write;
@@ -119,15 +124,16 @@ fn put_gathered<W: Write, I: Elements>(
     }
 }
 
-/// Writes a reply that shows definitions, for what stands at a range.
-fn put_hovers<W: Write>(
+/// Writes a reply that shows the first of some texts, for what stands at a range.
+pub(crate) fn put_hovers<W: Write, I: Elements>(
     out: &mut Sink<W>,
     id: Id<'_>,
-    hovers: Hovers<'_, '_>,
+    hovers: I,
     range: Range,
 ) -> Result<(), WriteFault>
-    ensures { Puts out.old out.new result (frame (value_text (result_reply (id_json id.entry)
-        (hover_of (hover_texts (meaning_left hovers.entry.rest)) range)))) }
+    ensures { (ts : List (List ℕ)) → I.texts hovers ≡ map escape ts
+        → Puts out.old out.new result (frame (value_text (result_reply (id_json id.entry)
+        (hover_of (hover_shown ts) range)))) }
 {
     put_list_result(
         out,
@@ -178,6 +184,14 @@ fn put_names<W: Write>(
 }
 
 impl<'a> FileAsked<'a> {
+    /// The place of a position.
+    pub(crate) fn place(&self, position: Position) -> u32
+        ensures value { result ≡ place self.now.forms.encoding self.now.source.now position }
+        ensures within { result ≤ length self.now.source.now }
+    {
+        place_of_position(self.forms.encoding, self.source.bytes(), position) as u32
+    }
+
     /// Writes the symbols of the file.
     fn put_symbols<W: Write>(&self, out: &mut Sink<W>, id: Id<'_>) -> Result<(), WriteFault>
         ensures { Puts out.old out.new result (frame (value_text (result_reply (id_json id.entry)
@@ -288,25 +302,6 @@ impl<'a> FileAsked<'a> {
                     rest: None,
                 },
             ),
-        }
-    }
-
-    /// Writes where what stands at a place is defined.
-    fn put_definition<W: Write>(
-        &self,
-        out: &mut Sink<W>,
-        id: Id<'_>,
-        place: usize,
-    ) -> Result<(), WriteFault>
-        requires { place ≤ length self.now.source.now }
-        ensures { Puts out.old out.new result (frame (value_text (result_reply (id_json id.entry)
-            (definition_at (client_in self.now.forms) self.now.desk.now.timeline.present
-            self.now.name.now self.now.source.now place
-            (header_at self.now.facts.now.includes place))))) }
-    {
-        match header_at(self.facts.includes(), place) {
-            Some(header) => self.put_header(out, id, bytes_of(self.source, header)),
-            None => self.put_places(out, id, word_at(self.source, place)),
         }
     }
 
@@ -464,15 +459,14 @@ impl<'a> FileAsked<'a> {
         }
     }
 
-    /// The word at a place that may be renamed.
-    pub(crate) fn renamable_at(&self, place: usize) -> Option<Span>
-        requires place { place ≤ length self.now.source.now }
-        requires facts { self.now.facts.now
+    /// The word of the file, if it may be renamed.
+    pub(crate) fn renamable(&self, word: Option<Span>) -> Option<Span>
+        requires { self.now.facts.now
             ≡ facts_in self.now.desk.now.timeline.present.profile self.now.source.now }
-        ensures { result ≡ renamable_at self.now.desk.now.timeline.present self.now.source.now
-            place }
+        ensures { result ≡ if_renamable self.now.desk.now.timeline.present self.now.source.now
+            word }
     {
-        match word_at(self.source, place) {
+        match word {
             Some(word) => self.if_renamable(word),
             None => None,
         }
@@ -555,6 +549,90 @@ impl<'a> FileAsked<'a> {
         }
     }
 
+    /// Answers a question about a word of the file.
+    fn put_about_word<W: Write>(
+        &self,
+        out: &mut Sink<W>,
+        id: Id<'_>,
+        word: Option<Span>,
+        question: PlaceQuestion,
+    ) -> Result<(), WriteFault>
+        requires { self.now.facts.now
+            ≡ facts_in self.now.desk.now.timeline.present.profile self.now.source.now }
+        ensures { Puts out.old out.new result (frame (value_text (result_reply (id_json id.entry)
+            (word_answer (client_in self.now.forms) self.now.desk.now.timeline.present
+            self.now.name.now self.now.source.now word question)))) }
+    {
+        match question {
+            PlaceQuestion::Definition => self.put_places(out, id, word),
+            PlaceQuestion::Hover => self.put_hover(out, id, word),
+            PlaceQuestion::Highlights => self.put_highlights(out, id, word),
+            PlaceQuestion::References(declarations) => {
+                self.put_references(out, id, word, declarations)
+            }
+            PlaceQuestion::PrepareRename => self.put_prepared(out, id, self.renamable(word)),
+            PlaceQuestion::Callables => self.put_callables_at(out, id, word),
+        }
+    }
+
+    /// Answers a question about the name at a place, by what it means in its function alone, if it
+    /// does.
+    fn put_about_name<W: Write>(
+        &self,
+        out: &mut Sink<W>,
+        id: Id<'_>,
+        place: u32,
+        question: PlaceQuestion,
+    ) -> Result<(), WriteFault>
+        requires place { place ≤ length self.now.source.now }
+        requires facts { self.now.facts.now
+            ≡ facts_in self.now.desk.now.timeline.present.profile self.now.source.now }
+        ensures { (no_memory : Bool) × Puts out.old out.new result (frame (value_text
+            (result_unless no_memory (id_json id.entry) (name_answer (client_in self.now.forms)
+            self.now.desk.now.timeline.present self.now.name.now self.now.source.now
+            (local_at self.now.source.now place) (word_at self.now.source.now place)
+            question)))) }
+    {
+        let word = word_at(self.source, place as usize);
+        match local_at(self.alloc, self.source, place) {
+            Ok(None) => self.put_about_word(out, id, word, question),
+            Ok(Some(own)) => self.put_about_local(out, id, &own, word, question),
+            Err(_) => put_refusal(out, id),
+        }
+    }
+
+    /// The header at a place, where a definition is asked for.
+    fn header_asked(&self, place: u32, question: PlaceQuestion) -> Option<Span>
+        ensures { result ≡ header_asked self.now.facts.now.includes place question }
+    {
+        match question {
+            PlaceQuestion::Definition => header_at(self.facts.includes(), place as usize),
+            _ => None,
+        }
+    }
+
+    /// Answers a question about what stands at a place.
+    fn put_about_place<W: Write>(
+        &self,
+        out: &mut Sink<W>,
+        id: Id<'_>,
+        place: u32,
+        question: PlaceQuestion,
+    ) -> Result<(), WriteFault>
+        requires place { place ≤ length self.now.source.now }
+        requires facts { self.now.facts.now
+            ≡ facts_in self.now.desk.now.timeline.present.profile self.now.source.now }
+        ensures { (no_memory : Bool) × Puts out.old out.new result (frame (value_text
+            (result_unless no_memory (id_json id.entry) (place_answer (client_in self.now.forms)
+            self.now.desk.now.timeline.present self.now.name.now self.now.source.now place
+            (header_asked self.now.facts.now.includes place question) question)))) }
+    {
+        match self.header_asked(place, question) {
+            Some(header) => self.put_header(out, id, bytes_of(self.source, header)),
+            None => self.put_about_name(out, id, place, question),
+        }
+    }
+
     /// Answers a question about the file.
     pub(crate) fn put_answer<W: Write>(
         &self,
@@ -564,39 +642,18 @@ impl<'a> FileAsked<'a> {
     ) -> Result<(), WriteFault>
         requires { self.now.facts.now
             ≡ facts_in self.now.desk.now.timeline.present.profile self.now.source.now }
-        ensures { Puts out.old out.new result (frame (value_text (result_reply (id_json id.entry)
-            (answer_in (client_in self.now.forms) self.now.desk.now.timeline.present
-            self.now.name.now self.now.source.now question)))) }
+        ensures { (no_memory : Bool) × Puts out.old out.new result (frame (value_text
+            (result_unless no_memory (id_json id.entry) (answer_in (client_in self.now.forms)
+            self.now.desk.now.timeline.present self.now.name.now self.now.source.now
+            question)))) }
     {
-        let text = self.source.bytes();
-        let encoding = self.forms.encoding;
         match question {
             FileQuestion::Symbols => self.put_symbols(out, id),
-            FileQuestion::Definition(position) => {
-                self.put_definition(out, id, place_of_position(encoding, text, position))
-            }
-            FileQuestion::Hover(position) => {
-                let place = place_of_position(encoding, text, position);
-                self.put_hover(out, id, word_at(self.source, place))
-            }
-            FileQuestion::Highlights(position) => {
-                let place = place_of_position(encoding, text, position);
-                self.put_highlights(out, id, word_at(self.source, place))
-            }
-            FileQuestion::References(position, declarations) => {
-                let place = place_of_position(encoding, text, position);
-                self.put_references(out, id, word_at(self.source, place), declarations)
-            }
-            FileQuestion::PrepareRename(position) => {
-                let place = place_of_position(encoding, text, position);
-                self.put_prepared(out, id, self.renamable_at(place))
-            }
-            FileQuestion::Callables(position) => {
-                let place = place_of_position(encoding, text, position);
-                self.put_callables_at(out, id, word_at(self.source, place))
+            FileQuestion::At(position, question) => {
+                self.put_about_place(out, id, self.place(position), question)
             }
             FileQuestion::Completions(position) => {
-                let place = place_of_position(encoding, text, position);
+                let place = self.place(position) as usize;
                 self.put_completions(out, id, word_before(self.source, place))
             }
         }

@@ -50,6 +50,6 @@ impl<'a> Elements for Highlights<'a> {
         let range = self
             .positions
             .range(one.name.start as usize, one.name.end as usize);
-        Some(Highlight { range })
+        Some(Highlight { range, kind: None })
     }
 }

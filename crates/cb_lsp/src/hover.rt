@@ -1,11 +1,13 @@
 //! A definition as a hover shows it.
 ghost use Rattle.std.specs.Prelude.{◌≡◌};
+ghost use Rattle.json.specs.Print.{escape};
 ghost use Rattle.cb_wire.specs.Texts.{parts_text};
-ghost use Rattle.cb_lsp.specs.Hovers.{cut_line};
+ghost use Rattle.cb_lsp.specs.Hovers.{cut_line, hover_at_place};
 ghost use Rattle.cb_lsp.specs.steps.Elements.{hover_element, hovers_left};
 
 use crate::meaning::Meaning;
 use cb_desk::unindented;
+use cb_scan::Source;
 use cb_tags::{Sink, WriteFault};
 use cb_wire::{
     Element, Elements, Encoding, Part, column_of_place, parts_length, place_of_column, put_parts,
@@ -36,6 +38,19 @@ pub(crate) struct Hover<'a> {
 }
 
 impl<'a> Hover<'a> {
+    /// The line of a place of a file.
+    pub(crate) fn at_place(file: &'a [u8], source: &'a Source, place: u32) -> Hover<'a>
+        ensures { hover_element result
+            ≡ escape (hover_at_place file.entry.now source.entry.now place) }
+    {
+        let line = source.line_of(place);
+        Hover {
+            file,
+            line,
+            text: source.shown_line(line),
+        }
+    }
+
     /// The parts of its text, inside a string of JSON.
     fn parts(&self) -> [Part<'a>; 5]
         ensures { parts_text result ≡ hover_element self.now }

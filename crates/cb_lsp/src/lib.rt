@@ -2,8 +2,8 @@
 //!
 //! A [`Server`] has the files of a desk and the documents that the editor has open. It reads
 //! messages from a feed, and writes replies to a sink. It stands on `cb_desk` (the files, what they
-//! define) and `cb_wire` (messages, replies, positions, URIs). The layer above uses the contract of
-//! [`Server::serve`].
+//! define), `cb_names` (what a name means in its function alone) and `cb_wire` (messages, replies,
+//! positions, URIs). The layer above uses the contract of [`Server::serve`].
 #![tactic(auto)]
 
 mod alike;
@@ -24,6 +24,7 @@ mod highlights;
 mod hover;
 mod kind;
 pub mod laws;
+mod local;
 mod location;
 mod meaning;
 mod notice;

@@ -3,7 +3,7 @@ ghost use Rattle.std.specs.Prelude.{◌≡◌};
 ghost use Rattle.std.specs.Option.{option_map};
 ghost use Rattle.cb_lsp.specs.Models.{asked_in, asked_of};
 ghost use Rattle.cb_lsp.specs.Questions.{asked_by, asked_of_files_by, at_place, calls_by, calls_to};
-ghost use Rattle.cb_lsp.specs.Questions.{folds, in_file, or_bad, rename_with, uses_at};
+ghost use Rattle.cb_lsp.specs.Questions.{completing, folds, in_file, or_bad, rename_with, uses_at};
 ghost use Rattle.cb_lsp.specs.Questions.{workspace_symbols};
 ghost use Rattle.cb_lsp.specs.Params.{declarations_in, item_name, item_start, item_uri};
 ghost use Rattle.cb_lsp.specs.Params.{new_name_in, position_in, query_in, uri_in};
@@ -14,24 +14,30 @@ use crate::params::{
 };
 use cb_wire::{Call, Position};
 
+/// A question about what stands at a position of a file.
+#[derive(Clone, Copy, Debug, PartialEq, Eq)]
+pub(crate) enum PlaceQuestion {
+    /// Where it is defined.
+    Definition,
+    /// What it is.
+    Hover,
+    /// Its uses in the file.
+    Highlights,
+    /// Its uses in all files of its reach, with the names of definitions or without them.
+    References(bool),
+    /// Its range, if it may be renamed.
+    PrepareRename,
+    /// The functions and macros that it means.
+    Callables,
+}
+
 /// A question about one file.
 #[derive(Clone, Copy, Debug, PartialEq, Eq)]
 pub(crate) enum FileQuestion {
     /// Its symbols.
     Symbols,
-    /// Where what stands at a position is defined.
-    Definition(Position),
     /// What stands at a position.
-    Hover(Position),
-    /// The uses in the file of the word at a position.
-    Highlights(Position),
-    /// The uses of the word at a position in all files of its reach, with the names of definitions
-    /// or without them.
-    References(Position, bool),
-    /// The range of the word at a position, if it may be renamed.
-    PrepareRename(Position),
-    /// The functions and macros that the word at a position means.
-    Callables(Position),
+    At(Position, PlaceQuestion),
     /// The names that complete the word before a position.
     Completions(Position),
 }
@@ -77,50 +83,22 @@ fn document_symbols<'v, 'a>(call: Call<'v, 'a>) -> Option<Question<'a>>
     Some(Question::InFile(uri_of(call.params)?, FileQuestion::Symbols))
 }
 
-fn definition<'v, 'a>(call: Call<'v, 'a>) -> Option<Question<'a>>
-    ensures { option_map asked_of result ≡ at_place FileQuestion.Definition
+/// A question about what stands at a position.
+fn at_place<'v, 'a>(call: Call<'v, 'a>, question: PlaceQuestion) -> Option<Question<'a>>
+    ensures { option_map asked_of result ≡ at_place question
         (uri_in (seen call.entry.params)) (position_in (seen call.entry.params)) }
 {
     let uri = uri_of(call.params)?;
     let position = position_of(call.params)?;
-    Some(Question::InFile(uri, FileQuestion::Definition(position)))
-}
-
-fn hover<'v, 'a>(call: Call<'v, 'a>) -> Option<Question<'a>>
-    ensures { option_map asked_of result ≡ at_place FileQuestion.Hover
-        (uri_in (seen call.entry.params)) (position_in (seen call.entry.params)) }
-{
-    let uri = uri_of(call.params)?;
-    let position = position_of(call.params)?;
-    Some(Question::InFile(uri, FileQuestion::Hover(position)))
-}
-
-fn highlights<'v, 'a>(call: Call<'v, 'a>) -> Option<Question<'a>>
-    ensures { option_map asked_of result ≡ at_place FileQuestion.Highlights
-        (uri_in (seen call.entry.params)) (position_in (seen call.entry.params)) }
-{
-    let uri = uri_of(call.params)?;
-    let position = position_of(call.params)?;
-    Some(Question::InFile(uri, FileQuestion::Highlights(position)))
+    Some(Question::InFile(uri, FileQuestion::At(position, question)))
 }
 
 fn references<'v, 'a>(call: Call<'v, 'a>) -> Option<Question<'a>>
     ensures { option_map asked_of result ≡ uses_at (uri_in (seen call.entry.params))
         (position_in (seen call.entry.params)) (declarations_in (seen call.entry.params)) }
 {
-    let uri = uri_of(call.params)?;
-    let position = position_of(call.params)?;
     let declarations = declarations_of(call.params)?;
-    Some(Question::InFile(uri, FileQuestion::References(position, declarations)))
-}
-
-fn prepare_rename<'v, 'a>(call: Call<'v, 'a>) -> Option<Question<'a>>
-    ensures { option_map asked_of result ≡ at_place FileQuestion.PrepareRename
-        (uri_in (seen call.entry.params)) (position_in (seen call.entry.params)) }
-{
-    let uri = uri_of(call.params)?;
-    let position = position_of(call.params)?;
-    Some(Question::InFile(uri, FileQuestion::PrepareRename(position)))
+    at_place(call, PlaceQuestion::References(declarations))
 }
 
 fn rename<'v, 'a>(call: Call<'v, 'a>) -> Option<Question<'a>>
@@ -133,17 +111,8 @@ fn rename<'v, 'a>(call: Call<'v, 'a>) -> Option<Question<'a>>
     Some(Question::Rename(uri, position, new_name))
 }
 
-fn callables<'v, 'a>(call: Call<'v, 'a>) -> Option<Question<'a>>
-    ensures { option_map asked_of result ≡ at_place FileQuestion.Callables
-        (uri_in (seen call.entry.params)) (position_in (seen call.entry.params)) }
-{
-    let uri = uri_of(call.params)?;
-    let position = position_of(call.params)?;
-    Some(Question::InFile(uri, FileQuestion::Callables(position)))
-}
-
 fn completions<'v, 'a>(call: Call<'v, 'a>) -> Option<Question<'a>>
-    ensures { option_map asked_of result ≡ at_place FileQuestion.Completions
+    ensures { option_map asked_of result ≡ completing
         (uri_in (seen call.entry.params)) (position_in (seen call.entry.params)) }
 {
     let uri = uri_of(call.params)?;
@@ -211,17 +180,17 @@ pub(crate) fn question_of<'v, 'a>(call: Call<'v, 'a>) -> Result<Question<'a>, Un
     if call.method == "textDocument/documentSymbol" {
         or_bad(document_symbols(call))
     } else if call.method == "textDocument/definition" {
-        or_bad(definition(call))
+        or_bad(at_place(call, PlaceQuestion::Definition))
     } else if call.method == "textDocument/hover" {
-        or_bad(hover(call))
+        or_bad(at_place(call, PlaceQuestion::Hover))
     } else if call.method == "textDocument/documentHighlight" {
-        or_bad(highlights(call))
+        or_bad(at_place(call, PlaceQuestion::Highlights))
     } else if call.method == "textDocument/references" {
         or_bad(references(call))
     } else if call.method == "textDocument/prepareRename" {
-        or_bad(prepare_rename(call))
+        or_bad(at_place(call, PlaceQuestion::PrepareRename))
     } else if call.method == "textDocument/prepareCallHierarchy" {
-        or_bad(callables(call))
+        or_bad(at_place(call, PlaceQuestion::Callables))
     } else if call.method == "textDocument/completion" {
         or_bad(completions(call))
     } else {

@@ -14,7 +14,7 @@ ghost use Rattle.cb_lsp.specs.steps.Located.{client_in};
 use crate::documents::copy_of;
 use crate::location::Forms;
 use crate::place::bytes_of;
-use crate::question::{FileQuestion, Question};
+use crate::question::{FileQuestion, PlaceQuestion, Question};
 use crate::word::word_at;
 use cb_desk::Desk;
 use cb_wire::{Position, path_of_uri, place_of_position};
@@ -171,13 +171,13 @@ fn sought_at<'a>(
         ≡ sought_at (client_in forms.entry) desk.now.timeline.present uri.now question) }
 {
     let (position, uses) = match question {
-        FileQuestion::Definition(position) => (position, false),
-        FileQuestion::Hover(position) => (position, false),
-        FileQuestion::Callables(position) => (position, false),
-        FileQuestion::References(position, _) => (position, true),
+        FileQuestion::At(position, PlaceQuestion::Definition) => (position, false),
+        FileQuestion::At(position, PlaceQuestion::Hover) => (position, false),
+        FileQuestion::At(position, PlaceQuestion::Callables) => (position, false),
+        FileQuestion::At(position, PlaceQuestion::References(_)) => (position, true),
         FileQuestion::Symbols
-        | FileQuestion::Highlights(_)
-        | FileQuestion::PrepareRename(_)
+        | FileQuestion::At(_, PlaceQuestion::Highlights)
+        | FileQuestion::At(_, PlaceQuestion::PrepareRename)
         | FileQuestion::Completions(_) => {
             return Ok(Sought {
                 name: None,

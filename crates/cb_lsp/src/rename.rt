@@ -3,6 +3,7 @@ ghost use Rattle.std.specs.Prelude.{◌≡◌, Bool, Err, Some, take};
 ghost use Rattle.std.specs.Option.{option_map};
 ghost use Rattle.cb_desk.specs.World.{text_of_file};
 ghost use Rattle.cb_index.specs.Rows.{uses_of};
+ghost use Rattle.cb_names.specs.Labels.{local_at};
 ghost use Rattle.cb_scan.specs.Profiles.{facts_in};
 ghost use Rattle.cb_tags.specs.Writing.{Puts};
 ghost use Rattle.cb_wire.specs.Messages.{id_json};
@@ -13,6 +14,7 @@ ghost use Rattle.cb_wire.specs.Values.{value_text};
 ghost use Rattle.cb_lsp.specs.Answers.{answer_reply, reply_with};
 ghost use Rattle.cb_lsp.specs.Bodies.{Replies};
 ghost use Rattle.cb_lsp.specs.Documents.{Oracle, Reading};
+ghost use Rattle.cb_lsp.specs.Messages.{reply_unless};
 ghost use Rattle.cb_lsp.specs.Models.{found_in};
 ghost use Rattle.cb_lsp.specs.Names.{is_outside, leads_down};
 ghost use Rattle.cb_lsp.specs.Renames.{all_edits, are_open, check, checked, is_never_edited};
@@ -31,14 +33,13 @@ use crate::documents::Documents;
 use crate::location::Located;
 use crate::place::bytes_of;
 use crate::reach::Reached;
+use crate::word::word_at;
 use crate::written::{put_failure, put_not_open, put_refusal, put_second_name};
 use cb_desk::Desk;
+use cb_names::local_at;
 use cb_scan::{Span, is_name};
 use cb_tags::{Sink, WriteFault};
-use cb_wire::{
-    Elements, ErrorCode, FileEdit, Id, MOST_ELEMENTS, Part, Position, place_of_position,
-    put_list_result,
-};
+use cb_wire::{Elements, ErrorCode, FileEdit, Id, MOST_ELEMENTS, Part, Position, put_list_result};
 use std::alloc::Global;
 use std::io::Write;
 
@@ -412,17 +413,25 @@ impl<'a> Renaming<'a> {
     ) -> Result<(), WriteFault>
         requires { self.now.asked.facts.now
             ≡ facts_in (work_in self.now).world.profile self.now.asked.source.now }
-        ensures { (o : Oracle) × Replies (D.finds disk.now) (reply_with (id_json id.entry)
+        ensures { (no_memory : Bool) × (o : Oracle) × Replies (D.finds disk.now)
+            (reply_unless no_memory (id_json id.entry)
             (renamed_word o (client_in self.now.asked.forms)
             (work_in self.now) self.now.asked.name.now self.now.asked.source.now
             self.now.new_name.now
-            (renamable_at (work_in self.now).world self.now.asked.source.now
-            (place self.now.asked.forms.encoding self.now.asked.source.now position))))
-            out.old out.new result }
+            (let at = place self.now.asked.forms.encoding self.now.asked.source.now position in
+            renamable_at (work_in self.now).world self.now.asked.source.now at
+            (local_at self.now.asked.source.now at)))) out.old out.new result }
     {
-        let text = self.asked.source.bytes();
-        let place = place_of_position(self.asked.forms.encoding, text, position);
-        let word = self.asked.renamable_at(place);
-        self.put_word(alloc, disk, out, id, word)
+        let place = self.asked.place(position);
+        match local_at(alloc, self.asked.source, place) {
+            Ok(None) => {
+                let word = self
+                    .asked
+                    .renamable(word_at(self.asked.source, place as usize));
+                self.put_word(alloc, disk, out, id, word)
+            }
+            Ok(Some(_)) => self.put_word(alloc, disk, out, id, None),
+            Err(_) => put_refusal(out, id),
+        }
     }
 }

@@ -14,7 +14,7 @@ use crate::location::Forms;
 use crate::notice::{FileEvent, Notice};
 use crate::outgoing::put_outgoing;
 use crate::params;
-use crate::question::{FileQuestion, Question, question_of};
+use crate::question::{FileQuestion, PlaceQuestion, Question, question_of};
 use crate::rename::Renaming;
 use crate::workspace::Workspace;
 use crate::written::{
@@ -118,14 +118,14 @@ impl Server {
     ghost use Rattle.cb_tags.specs.Writing.{Puts};
     ghost use Rattle.cb_wire.specs.Messages.{id_json};
     ghost use Rattle.cb_wire.specs.Texts.{frame};
-    ghost use Rattle.cb_wire.specs.Trees.{result_reply};
     ghost use Rattle.cb_wire.specs.Values.{value_text};
-    ghost use Rattle.cb_lsp.specs.Answers.{answer_named, reply_with};
+    ghost use Rattle.cb_lsp.specs.Answers.{answer_named};
     ghost use Rattle.cb_lsp.specs.Messages.{all_lost, asked_reply, dropped, fresh_server};
     ghost use Rattle.cb_lsp.specs.Messages.{happened, happened_at, unread};
     ghost use Rattle.cb_lsp.specs.Messages.{happened_in, initialized, noticed, noticed_at};
     ghost use Rattle.cb_lsp.specs.Messages.{noticed_by, noticed_of, read_behind, registers};
-    ghost use Rattle.cb_lsp.specs.Messages.{requested, running, with_root};
+    ghost use Rattle.cb_lsp.specs.Messages.{reply_unless, requested, result_unless, running};
+    ghost use Rattle.cb_lsp.specs.Messages.{with_root};
     ghost use Rattle.cb_lsp.specs.Models.{asked_of, found_in};
     ghost use Rattle.cb_lsp.specs.Params.{items_in, member_of, uri_in};
     ghost use Rattle.cb_lsp.specs.Questions.{folds, in_file, incoming, outgoing, rename};
@@ -269,13 +269,13 @@ impl Server {
     {
         match question {
             Question::Folds(_) => return,
-            Question::InFile(_, FileQuestion::Symbols | FileQuestion::Highlights(_)) => return,
+            Question::InFile(_, FileQuestion::Symbols) => return,
+            Question::InFile(_, FileQuestion::At(_, PlaceQuestion::Highlights)) => return,
             _ => self.work.settle(Field::Definition),
         }
         match question {
-            Question::InFile(_, FileQuestion::References(_, _)) | Question::Rename(_, _, _) => {
-                self.work.settle(Field::Symbol)
-            }
+            Question::InFile(_, FileQuestion::At(_, PlaceQuestion::References(_)))
+            | Question::Rename(_, _, _) => self.work.settle(Field::Symbol),
             Question::Incoming(_, _) => self.work.settle(Field::Calling),
             _ => {}
         }
@@ -344,7 +344,8 @@ impl Server {
         name: &[u8],
         question: FileQuestion,
     ) -> Result<(), WriteFault>
-        ensures { Puts out.old out.new result (frame (value_text (result_reply (id_json id.entry)
+        ensures { (no_memory : Bool) × Puts out.old out.new result (frame (value_text
+            (result_unless no_memory (id_json id.entry)
             (answer_named self.now.client self.now.work.world question (Some name.now))))) }
     {
         match self.work.desk().scanned(name) {
@@ -398,9 +399,9 @@ impl Server {
         position: Position,
         new_name: &[u8],
     ) -> Result<(), WriteFault>
-        ensures { (o : Oracle) × Replies (D.finds disk.now) (reply_with (id_json id.entry)
-            (renamed_at o self.now.client self.now.work position new_name.now (Some name.now)))
-            out.old out.new result }
+        ensures { (no_memory : Bool) × (o : Oracle) × Replies (D.finds disk.now)
+            (reply_unless no_memory (id_json id.entry) (renamed_at o self.now.client self.now.work
+            position new_name.now (Some name.now))) out.old out.new result }
     {
         match self.work.desk().scanned(name) {
             Some((source, facts)) => {

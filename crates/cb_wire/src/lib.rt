@@ -32,7 +32,7 @@ pub use edits::FileEdit;
 pub use fold::Fold;
 pub use frame::{Frame, FrameError, Frames, MOST_BODY};
 pub use list::{Element, Elements, MOST_ELEMENTS, list_in_memory, put_list_result};
-pub use location::{Highlight, Location};
+pub use location::{Highlight, HighlightKind, Location};
 pub use message::{Call, Id, Message, OutOfMemory, message_of, text_of, value_of};
 pub use part::{Part, part_length, parts_length, put_message, put_parts};
 pub use position::{Position, Range, line_at, place_of_position, position_of_place};

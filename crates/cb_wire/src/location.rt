@@ -1,6 +1,6 @@
 //! Where something stands, as the protocol names it.
 ghost use Rattle.std.specs.Prelude.{◌≡◌};
-ghost use Rattle.cb_wire.specs.Locations.{highlight_text, location_text};
+ghost use Rattle.cb_wire.specs.Locations.{highlight_end, highlight_text, location_text};
 ghost use Rattle.cb_wire.specs.Texts.{parts_text};
 
 use crate::{Element, Part, Range, Root, parts_length, put_parts};
@@ -42,10 +42,35 @@ impl Element for Location<'_> {
     }
 }
 
-/// A range of the file that is asked about, which an editor marks (`DocumentHighlight`).
+/// What is done with a name (`DocumentHighlightKind`): 1, 2 and 3.
+#[derive(Clone, Copy, Debug, PartialEq, Eq)]
+pub enum HighlightKind {
+    /// It is named.
+    Text,
+    /// It is read.
+    Read,
+    /// It is written.
+    Write,
+}
+
+/// How the text of a range that is marked ends.
+fn highlight_end(kind: Option<HighlightKind>) -> &'static [u8]
+    ensures { result.now ≡ highlight_end kind }
+{
+    match kind {
+        None => b"}",
+        Some(HighlightKind::Text) => b",\"kind\":1}",
+        Some(HighlightKind::Read) => b",\"kind\":2}",
+        Some(HighlightKind::Write) => b",\"kind\":3}",
+    }
+}
+
+/// A range of the file that is asked about, which an editor marks (`DocumentHighlight`), and what
+/// is done with the name there, if that is known.
 #[derive(Clone, Copy, Debug)]
 pub struct Highlight {
     pub range: Range,
+    pub kind: Option<HighlightKind>,
 }
 
 impl Highlight {
@@ -56,7 +81,7 @@ impl Highlight {
         [
             Part::Raw(b"{\"range\":"),
             Part::Range(self.range),
-            Part::Raw(b"}"),
+            Part::Raw(highlight_end(self.kind)),
         ]
     }
 }

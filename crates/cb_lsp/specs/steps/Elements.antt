@@ -1,19 +1,19 @@
 -- The elements of lists that are written.
-use Rattle.std.specs.Prelude.{ℕ, Bool, ◌++◌, List, [], ◌∷◌, codes, decimal, map}
+use Rattle.std.specs.Prelude.{ℕ, Bool, ◌++◌, List, [], ◌∷◌, map}
 use Rattle.std.specs.Prelude.{Option, None, Some, true, false}
 use Rattle.std.specs.Borrow.{Bor}
 use Rattle.json.specs.Print.{escape}
-use Rattle.cb_desk.specs.Answer.{unindented}
 use Rattle.cb_index.specs.steps.Left.{tag_of_spot}
+use Rattle.cb_names.specs.declared.local.LocalUse.{LocalUse}
 use Rattle.cb_tags.specs.TagLines.{Tag}
-use Rattle.cb_wire.specs.Texts.{readable}
 use Rattle.cb_wire.specs.Values.{value_text}
 use Rattle.cb_lsp.specs.Calls.{callables, item_of}
 use Rattle.cb_lsp.specs.Clients.{Client}
 use Rattle.cb_lsp.specs.Folds.{folded}
 use Rattle.cb_lsp.specs.Headers.{files_named}
 use Rattle.cb_lsp.specs.Highlights.{highlight, uses_of}
-use Rattle.cb_lsp.specs.Hovers.{cut_line, hover_text}
+use Rattle.cb_lsp.specs.Hovers.{hover_line, hover_text}
+use Rattle.cb_lsp.specs.Locals.{local_mark, token_place, uses_wanted}
 use Rattle.cb_lsp.specs.Symbols.{file_place, file_symbol_as, place_of, place_of_use}
 use Rattle.cb_lsp.specs.Symbols.{session_symbol}
 use Rattle.cb_lsp.specs.declared.calls.CallItems.{CallItems}
@@ -21,6 +21,8 @@ use Rattle.cb_lsp.specs.declared.folds.Folds.{Folds}
 use Rattle.cb_lsp.specs.declared.highlights.Highlights.{Highlights}
 use Rattle.cb_lsp.specs.declared.hover.Hover.{Hover}
 use Rattle.cb_lsp.specs.declared.hover.Hovers.{Hovers}
+use Rattle.cb_lsp.specs.declared.local.LocalMarks.{LocalMarks}
+use Rattle.cb_lsp.specs.declared.local.LocalUses.{LocalUses}
 use Rattle.cb_lsp.specs.declared.meaning.Meaning.{Meaning}
 use Rattle.cb_lsp.specs.declared.references.UsePlaces.{UsePlaces}
 use Rattle.cb_lsp.specs.declared.symbols.FileDefs.{FileDefs}
@@ -44,9 +46,7 @@ client_of_defs d = record {
 
 -- a definition as a hover shows it, inside a string of JSON
 abbrev pub hover_element : Hover → List ℕ
-hover_element h =
-    escape (readable h.file.now ++ codes ":" ++ decimal h.line ++ codes "\n"
-    ++ readable (cut_line (unindented h.text.now)))
+hover_element h = escape (hover_line h.file.now h.line h.text.now)
 
 -- ---- those that are left
 
@@ -89,6 +89,15 @@ abbrev pub highlights_left : Highlights → List (List ℕ)
 highlights_left h =
     map (λ u. value_text (highlight h.positions.encoding h.positions.text u))
     (uses_of h.positions.text h.name.now h.rest.now)
+
+abbrev pub local_marks_left : LocalMarks → List (List ℕ)
+local_marks_left m =
+    map (λ u. value_text (local_mark m.positions.encoding m.positions.text u)) m.rest.now
+
+abbrev pub local_uses_left : LocalUses → List (List ℕ)
+local_uses_left s =
+    map (λ (u : LocalUse). value_text (token_place s.root.now s.positions.encoding s.file.now
+    s.positions.text u.name)) (uses_wanted s.declarations s.rest.now)
 
 abbrev pub folds_left : Folds → List (List ℕ)
 folds_left f = map value_text (folded f.source.now f.rest.now)

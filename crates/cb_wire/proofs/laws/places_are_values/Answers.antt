@@ -5,6 +5,7 @@ use Rattle.cb_wire.proofs.Arrays.{tree-symbol-numbers}
 use Rattle.cb_wire.specs.Calls.{side_name}
 use Rattle.cb_wire.proofs.Completions.{item-numbers}
 use Rattle.cb_wire.proofs.Folds.{fold-numbers}
+use Rattle.cb_wire.proofs.Locations.{highlight-depth, kind-numbers}
 use Rattle.cb_wire.proofs.laws.places_are_values.Goals as goal
 
 pub returns-clause-range : goal.returns-clause-range
@@ -14,7 +15,8 @@ pub returns-clause-location : goal.returns-clause-location
 returns-clause-location c = λ l p. (location-numbers l p, refl)
 
 pub returns-clause-highlight : goal.returns-clause-highlight
-returns-clause-highlight c = λ h p. ((range-numbers h.range p, tt), refl)
+returns-clause-highlight c = λ h p.
+    ((range-numbers h.range p, kind-numbers h.kind), highlight-depth h.range h.kind)
 
 pub returns-clause-symbol : goal.returns-clause-symbol
 returns-clause-symbol c = λ s k p. (symbol-numbers s k p, refl)

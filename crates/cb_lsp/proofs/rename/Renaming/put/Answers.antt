@@ -1,25 +1,49 @@
-use Rattle.std.proofs.Common.{◌∙◌, ap, subst}
+use Rattle.std.proofs.Common.{◌∙◌, ap, subst, sym, false, true}
+use Rattle.cb_names.specs.Labels.{local_at}
 use Rattle.cb_lsp.specs.Bodies.{Replies}
 use Rattle.cb_wire.specs.Messages.{id_json}
-use Rattle.cb_wire.specs.Positions.{place}
-use Rattle.cb_lsp.specs.Answers.{reply_with}
-use Rattle.cb_lsp.specs.Renames.{renamable_at, renamed_word}
+use Rattle.cb_lsp.specs.Messages.{reply_unless}
+use Rattle.cb_lsp.specs.Renames.{if_renamable, renamable_at, renamed_word}
 use Rattle.cb_lsp.specs.steps.Located.{client_in}
 use Rattle.cb_lsp.specs.steps.Renames.{work_in}
+use Rattle.cb_lsp.proofs.Notices.{quiet}
 use Rattle.cb_lsp.proofs.rename.Renaming.put.Goals as goal
 
-pub returns : goal.returns
-returns g c =
-    let finds = g.D.Disk.finds c.args.disk.now in
+pub returns-in-Ok-None : goal.returns-in-Ok-None
+returns-in-Ok-None g c =
     let f = c.args.self.now in
+    let w = f.asked.desk.now.timeline.present in
+    let text = f.asked.source.now in
     let word = c.put_word.ensures in
-    let at = c.place_of_position-place.ensures.value
-    ∙ ap (λ t. place f.asked.forms.encoding t c.args.position) c.bytes-text.ensures.value in (
+    let is = c.renamable-word.ensures ∙ ap (if_renamable w text) c.word_at.ensures
+    ∙ ap (renamable_at w text c.place-place.result)
+    (sym c.in-Ok-None.field-0-is ∙ c.in-Ok-None.ensures.local)
+    ∙ ap (λ at. renamable_at w text at (local_at text at)) c.place-place.ensures.value in (
+      false,
       word.0,
-      subst (λ x. Replies finds (reply_with (id_json c.args.id) (renamed_word word.0 (client_in f.asked.forms)
-          (work_in f) f.asked.name.now f.asked.source.now f.new_name.now x)) c.args.out.now
-          c.put_word.new.out c.put_word.result)
-          (c.renamable_at-word.ensures
-          ∙ ap (renamable_at f.asked.desk.now.timeline.present f.asked.source.now) at)
-          word.1,
+      subst (λ x. Replies (g.D.Disk.finds c.args.disk.now) (reply_unless false
+          (id_json c.args.id) (renamed_word word.0 (client_in f.asked.forms) (work_in f)
+          f.asked.name.now text f.new_name.now x)) c.args.out.now c.put_word.new.out
+          c.put_word.result) is word.1,
     )
+
+pub returns-in-Ok-Some : goal.returns-in-Ok-Some
+returns-in-Ok-Some g c =
+    let f = c.args.self.now in
+    let w = f.asked.desk.now.timeline.present in
+    let text = f.asked.source.now in
+    let call = c.put_word-in-Ok-Some in
+    let word = call.ensures in
+    let is = ap (renamable_at w text c.place-place.result)
+    (sym c.in-Ok-Some.field-0-is ∙ c.in-Ok-Some.ensures.local)
+    ∙ ap (λ at. renamable_at w text at (local_at text at)) c.place-place.ensures.value in (
+      false,
+      word.0,
+      subst (λ x. Replies (g.D.Disk.finds c.args.disk.now) (reply_unless false
+          (id_json c.args.id) (renamed_word word.0 (client_in f.asked.forms) (work_in f)
+          f.asked.name.now text f.new_name.now x)) c.args.out.now call.new.out call.result)
+          is word.1,
+    )
+
+pub returns : goal.returns
+returns g c = (true, quiet, (c.put_refusal.ensures, tt))

@@ -17,11 +17,11 @@ returns-in-Ok-Some g c =
     let named = c.name-name.ensures
     ∙ ap (λ (s : Serving). name_below s.client.root.path path) c.self.view_is in
     let renamed = c.rename_in.ensures in (
-      behind false renamed.0,
-      puts-renamed (g.D.Disk.finds c.args.disk.now) renamed.0 c.args.self.now c.args.uri.now path c.name-name.result.now
-          c.args.position c.as_bytes-in-Ok-Some.result.now c.args.new_name.now
-          (id_json c.args.id) _ _ c.rename_in.result found named
-          c.as_bytes-in-Ok-Some.ensures.value renamed.1,
+      behind renamed.0 renamed.1,
+      puts-renamed (g.D.Disk.finds c.args.disk.now) renamed.0 renamed.1 c.args.self.now
+          c.args.uri.now path c.name-name.result.now c.args.position
+          c.as_bytes-in-Ok-Some.result.now c.args.new_name.now (id_json c.args.id) _ _
+          c.rename_in.result found named c.as_bytes-in-Ok-Some.ensures.value renamed.2,
     )
 
 pub returns-in-Ok-None : goal.returns-in-Ok-None

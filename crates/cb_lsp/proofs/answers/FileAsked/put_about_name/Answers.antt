@@ -1,0 +1,48 @@
+use Rattle.std.proofs.Common.{◌∙◌, ap, subst, sym, false}
+use Rattle.std.specs.Prelude.{Some}
+use Rattle.cb_tags.specs.Writing.{Puts}
+use Rattle.cb_wire.specs.Messages.{id_json}
+use Rattle.cb_wire.specs.Texts.{frame}
+use Rattle.cb_wire.specs.Trees.{result_reply}
+use Rattle.cb_wire.specs.Values.{value_text}
+use Rattle.cb_lsp.specs.Answers.{local_answer, name_answer, word_answer}
+use Rattle.cb_lsp.specs.Messages.{result_unless}
+use Rattle.cb_lsp.specs.Words.{word_at}
+use Rattle.cb_lsp.specs.steps.Located.{client_in}
+use Rattle.cb_lsp.proofs.answers.FileAsked.put_about_name.Goals as goal
+
+pub returns-in-Ok-None : goal.returns-in-Ok-None
+returns-in-Ok-None g c =
+    let f = c.args.self.now in
+    let w = f.desk.now.timeline.present in
+    let call = c.put_about_word in (
+      false,
+      subst (λ o. Puts c.args.out.now call.new.out call.result
+          (frame (value_text (result_unless false (id_json c.args.id)
+          (name_answer (client_in f.forms) w f.name.now f.source.now o
+          (word_at f.source.now c.args.place) c.args.question)))))
+          (sym c.in-Ok-None.field-0-is ∙ c.in-Ok-None.ensures.local)
+          (subst (λ o. Puts c.args.out.now call.new.out call.result
+          (frame (value_text (result_reply (id_json c.args.id)
+          (word_answer (client_in f.forms) w f.name.now f.source.now o c.args.question)))))
+          c.word_at-word.ensures call.ensures),
+    )
+
+pub returns-in-Ok-Some : goal.returns-in-Ok-Some
+returns-in-Ok-Some g c =
+    let f = c.args.self.now in
+    let w = f.desk.now.timeline.present in
+    let call = c.put_about_local in (
+      false,
+      subst (λ o. Puts c.args.out.now call.new.out call.result
+          (frame (value_text (result_unless false (id_json c.args.id)
+          (name_answer (client_in f.forms) w f.name.now f.source.now o
+          (word_at f.source.now c.args.place) c.args.question)))))
+          (ap Some c.in-Ok-Some.own-is ∙ sym c.in-Ok-Some.field-0-is
+          ∙ c.in-Ok-Some.ensures.local)
+          (subst (λ o. Puts c.args.out.now call.new.out call.result
+          (frame (value_text (result_reply (id_json c.args.id)
+          (local_answer (client_in f.forms) f.name.now f.source.now c.in-Ok-Some.own o
+          c.args.question)))))
+          c.word_at-word.ensures call.ensures),
+    )

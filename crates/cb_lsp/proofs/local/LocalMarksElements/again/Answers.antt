@@ -1,0 +1,10 @@
+use Rattle.std.proofs.Common.{◌∙◌, map}
+use Rattle.cb_wire.specs.Values.{value_text}
+use Rattle.cb_lsp.specs.Locals.{local_mark}
+use Rattle.cb_lsp.proofs.local.LocalMarksElements.again.Goals as goal
+
+pub returns : goal.returns
+returns c =
+    let counts = c.new.ensures.encoding ∙ c.encoding.ensures in
+    let reads = c.new.ensures.text ∙ c.source.ensures in
+    λ i. map (λ u. value_text (local_mark (counts i) (reads i) u)) c.args.self.now.rest.now
