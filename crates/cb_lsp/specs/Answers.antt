@@ -5,7 +5,7 @@ use Rattle.std.specs.Prelude.{if◌then◌else◌}
 use Rattle.json.specs.Json.{Json, array, null}
 use Rattle.cb_desk.specs.World.{World, has_file, text_of_file}
 use Rattle.cb_index.specs.Rows.{Fact, tags_named, uses_of}
-use Rattle.cb_names.specs.Labels.{local_at}
+use Rattle.cb_names.specs.Meanings.{local_at}
 use Rattle.cb_names.specs.Locals.{LocalName}
 use Rattle.cb_names.specs.declared.local.LocalUse.{LocalUse}
 use Rattle.cb_scan.specs.declared.facts.Include.{Include}

@@ -8,7 +8,7 @@ use Rattle.std.specs.Str.{bytes_eq}
 use Rattle.json.specs.Json.{Json, null}
 use Rattle.cb_desk.specs.World.{File, World, has_file, text_of_file}
 use Rattle.cb_index.specs.Rows.{Fact, tags_named, uses_of}
-use Rattle.cb_names.specs.Labels.{local_at}
+use Rattle.cb_names.specs.Meanings.{local_at}
 use Rattle.cb_names.specs.Locals.{LocalName}
 use Rattle.cb_scan.specs.declared.facts.Use.{Use}
 use Rattle.cb_scan.specs.declared.lex.piece.Span.{Span}

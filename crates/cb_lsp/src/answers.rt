@@ -7,7 +7,7 @@ ghost use Rattle.json.specs.Print.{escape};
 ghost use Rattle.cb_desk.specs.World.{has_file};
 ghost use Rattle.cb_index.specs.Rows.{tags_named};
 ghost use Rattle.cb_index.specs.steps.Left.{tag_of_spot};
-ghost use Rattle.cb_names.specs.Labels.{local_at};
+ghost use Rattle.cb_names.specs.Meanings.{local_at};
 ghost use Rattle.cb_scan.specs.Profiles.{facts_in};
 ghost use Rattle.cb_scan.specs.lex.Tokens.{bytes_of};
 ghost use Rattle.cb_tags.specs.Writing.{Puts};

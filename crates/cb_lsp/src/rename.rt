@@ -3,7 +3,7 @@ ghost use Rattle.std.specs.Prelude.{◌≡◌, Bool, Err, Some, take};
 ghost use Rattle.std.specs.Option.{option_map};
 ghost use Rattle.cb_desk.specs.World.{text_of_file};
 ghost use Rattle.cb_index.specs.Rows.{uses_of};
-ghost use Rattle.cb_names.specs.Labels.{local_at};
+ghost use Rattle.cb_names.specs.Meanings.{local_at};
 ghost use Rattle.cb_scan.specs.Profiles.{facts_in};
 ghost use Rattle.cb_tags.specs.Writing.{Puts};
 ghost use Rattle.cb_wire.specs.Messages.{id_json};

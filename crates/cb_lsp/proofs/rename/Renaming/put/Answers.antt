@@ -1,5 +1,5 @@
 use Rattle.std.proofs.Common.{◌∙◌, ap, subst, sym, false, true}
-use Rattle.cb_names.specs.Labels.{local_at}
+use Rattle.cb_names.specs.Meanings.{local_at}
 use Rattle.cb_lsp.specs.Bodies.{Replies}
 use Rattle.cb_wire.specs.Messages.{id_json}
 use Rattle.cb_lsp.specs.Messages.{reply_unless}
