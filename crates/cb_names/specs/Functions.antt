@@ -1,6 +1,6 @@
 -- The function around a place: from the first token of its head to the end of its body, without the
 -- attributes that are left out everywhere. This is the project's profile.
-use Rattle.std.specs.Prelude.{ℕ, zero, suc, Bool, ◌&&◌, ◌||◌, nat_lt, not, List, drop, find, map, take}
+use Rattle.std.specs.Prelude.{ℕ, zero, suc, Bool, ◌&&◌, ◌||◌, nat_le, nat_lt, not, List, drop, find, map, take}
 use Rattle.std.specs.Prelude.{if◌then◌else◌, Option}
 use Rattle.std.specs.List.{prefix_len}
 use Rattle.cb_scan.specs.Bytes.{close_brace, open_brace, semicolon}
@@ -57,6 +57,6 @@ opens_behind place x = x.token.counted && nat_lt place (start x)
 abbrev pub body_of : List Item → Range → ℕ
 body_of xs r = prefix_len (λ x. not (opens_behind r.name.start x)) xs
 
--- the function that ends first behind a place
+-- the function that ends first at a place or behind it: a name that ends at its end is in it
 abbrev pub function_at : List ℕ → ℕ → Option Range
-function_at text place = find (λ (r : Range). nat_lt place r.end) (ranges_in Wide text)
+function_at text place = find (λ (r : Range). nat_le place r.end) (ranges_in Wide text)

@@ -1,6 +1,6 @@
 //! The function around a place.
 ghost use Rattle.std.specs.Prelude.{◌≡◌, ◌<◌, ◌≤◌, ◌^◌, IfErr, IfOk, MatchOption, None, Some, find};
-ghost use Rattle.std.specs.Prelude.{length, map, nat_lt};
+ghost use Rattle.std.specs.Prelude.{length, map, nat_le};
 ghost use Rattle.std.specs.List.{AllByRecursion, prefix_len};
 ghost use Rattle.cb_scan.specs.CodeTokens.{IsTokenOf};
 ghost use Rattle.cb_scan.specs.declared.rules.scope.Range.{Range};
@@ -117,19 +117,19 @@ fn own_items_of(
     }
 }
 
-/// Whether a function ends behind a place.
-fn ends_behind(place: u32, range: &Range) -> bool
-    ensures { result ≡ nat_lt place range.now.end }
+/// Whether a function ends at a place or behind it.
+fn reaches(place: u32, range: &Range) -> bool
+    ensures { result ≡ nat_le place range.now.end }
 {
-    place < range.end
+    place <= range.end
 }
 
-/// The function that ends first behind a place.
+/// The function that ends first at a place or behind it.
 fn function_among(ranges: &[Range], place: u32) -> Option<Range>
-    ensures { result ≡ find (λ (r : Range). nat_lt place r.end) ranges.now }
+    ensures { result ≡ find (λ (r : Range). nat_le place r.end) ranges.now }
 {
     for (i, range) in ranges.iter().enumerate() {
-        if ends_behind(place, range) {
+        if reaches(place, range) {
             return Some(ranges[i]);
         }
     }

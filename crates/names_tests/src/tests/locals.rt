@@ -70,6 +70,8 @@ fn a_local_begins_at_its_declaration(rt: HostRuntime) -> Result<(), Fail> {
     // Before it, in the function and outside of it.
     assert!(rt; is_free(&rt, text, 21)?);
     assert!(rt; is_free(&rt, text, 4)?);
+    // At the end of a text whose function is still open.
+    assert!(rt; uses(&rt, b"int f(int a) { a", 16, 11, &[11, 15], b"Nr")?);
     Ok(())
 }
 
