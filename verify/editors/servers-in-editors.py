@@ -8,8 +8,8 @@ nvim and emacs with eglot (tried with those of Debian 12: 0.7.2, and 28.2 with 1
 `cbrowse-lsp` by themselves, in a folder whose name has a blank and, for nvim, a letter outside
 ASCII. An editor that is not there is passed over. What they have to be told was worked out by hand.
 
-    Tree      a small tree under git. Definitions of functions, also of static ones, of macros in
-              headers and of headers on `#include` lines; hover; uses in all files, without the
+    Tree      a small tree under git. Definitions of functions, also of static ones, of parameters,
+              of macros in headers and of headers on `#include` lines; hover; uses in all files, without the
               names of definitions; the edits of a rename; highlights; symbols of a document and of
               the workspace. Columns count behind letters outside ASCII. What git ignores is not
               found, nor are links; a new file is
@@ -545,6 +545,12 @@ def questions(plan: Plan) -> None:
     plan.do("open", shape)
     plan.ask("definition", shape, 7, 8, is_now=[(shape, 1, 11, 17)])
     plan.ask("definition", shape, 3, 12, is_now=[(header, 4, 5, 6)])  # a member
+    # a parameter, which has the name of others
+    plan.ask("definition", shape, 7, 15, is_now=[(shape, 5, 29, 31)])
+    plan.ask("uses", shape, 7, 15, is_now=[(shape, 7, 15, 17)])
+    plan.ask("marks", shape, 7, 15, is_now=[(5, 29, 31), (7, 15, 17)])
+    plan.ask("prepare", shape, 7, 15, is_now=None)
+    plan.jump(shape, 3, 8, [(shape, 1, 38)])
     plan.jump(main, 11, 29, [(shape, 5, 4)])
     plan.jump(main, 6, 12, [(header, 2, 8)])
     plan.jump(shape, 7, 8, [(shape, 1, 11)])
