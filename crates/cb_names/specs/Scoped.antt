@@ -2,7 +2,7 @@
 -- scopes (ISO C 2011, 6.7, 6.7.2.2 and 6.9.1, found in tokens by this project's profile). Its name
 -- has index m, and its body begins at index b.
 use Rattle.std.specs.Prelude.{ℕ, zero, suc, Bool, true, false, ◌&&◌, ◌||◌, ◌==◌, nat_lt, List}
-use Rattle.std.specs.Prelude.{if◌then◌else◌, length, Option, None, Some}
+use Rattle.std.specs.Prelude.{if◌then◌else◌, length, not, Option, None, Some}
 use Rattle.std.specs.List.{list_any, range_with_len}
 use Rattle.std.specs.Option.{option_map_or}
 use Rattle.cb_scan.specs.Bytes.{close_paren, comma, open_brace, open_paren, semicolon}
@@ -96,10 +96,11 @@ abbrev pub is_body : Brace → Bool
 is_body Body = true
 is_body _ = false
 
--- index k is an enumerator: a name with which a part of the body of an enumeration begins
+-- index k is an enumerator: a name with which a part of the body of an enumeration begins, and which
+-- is not called
 abbrev pub is_enumerator : List Item → ℕ → ℕ → Bool
 is_enumerator xs b k =
-    is_name_at xs k && follows_comma xs open_brace k
+    is_name_at xs k && not (is_at open_paren xs (suc k)) && follows_comma xs open_brace k
     && option_map_or (λ j. is_body (kind_at xs b j) && follows_enum xs j) (innermost xs k) false
 
 -- ---- all of it

@@ -355,6 +355,7 @@ impl<'a> Told<'a> {
             index }
     {
         is_name_at(self.shape.items.as_slice(), index)
+            && !(sign(self.shape.items.as_slice(), index + 1) == b'(')
             && self.follows_comma(b'{', index)
             && self.is_in_enumeration(index)
     }

@@ -71,7 +71,7 @@ fn a_local_begins_at_its_declaration(rt: HostRuntime) -> Result<(), Fail> {
     assert!(rt; is_free(&rt, text, 21)?);
     assert!(rt; is_free(&rt, text, 4)?);
     // At the end of a text whose function is still open.
-    assert!(rt; uses(&rt, b"int f(int a) { a", 16, 11, &[11, 15], b"Nr")?);
+    assert!(rt; uses(&rt, b"int f(int a) { a", 16, 10, &[10, 15], b"Nr")?);
     Ok(())
 }
 
@@ -109,6 +109,8 @@ fn enumerators_are_declared_in_their_block(rt: HostRuntime) -> Result<(), Fail> 
     assert!(rt; uses(&rt, text, 40, 25, &[25, 40], b"Nr")?);
     assert!(rt; uses(&rt, text, 49, 28, &[28, 49], b"Wr")?);
     assert!(rt; is_free(&rt, text, 62)?);
+    // What is called there is a macro.
+    assert!(rt; is_free(&rt, b"void f(void) { enum { A(b), C }; A(C); }", 33)?);
     Ok(())
 }
 
