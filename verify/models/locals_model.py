@@ -1,8 +1,9 @@
 """What a name means in its function alone, as `cbrowse` finds it: labels, parameters, variables.
 
 The rules are those of `names_model.py`, within what `docs/NAMES.md` names as limits: attributes
-that are left out name nothing, a structure in a function has no members, and a value counts only
-directly behind the name that is declared.
+that are left out name nothing, a structure in a function has no members, each part of an
+enumeration begins with an enumerator, and a value counts only directly behind the name that is
+declared.
 """
 
 from __future__ import annotations
@@ -40,6 +41,22 @@ class Names(names_model.Text):
         firsts = ((part, part.items[0].token.place) for part in self.parts_of_file if part.items)
         self.parts_of_file = [part for part, place in firsts if not inside[self.index[place]]]
         return inside
+
+    def declare_in_blocks(self):
+        """Takes each name with which a part of an enumeration begins for an enumerator."""
+        tokens = enumerate(self.code.tokens)
+        self.enumerators = [it for index, it in tokens if it.is_name and self.is_enumerator(index)]
+        super().declare_in_blocks()
+
+    def is_enumerator(self, index):
+        """Whether a name is directly behind the `{` or a comma of an enumeration in a function."""
+        code, before = self.code, self.code.around[index]
+        if self.kinds.get(before) != "body" or code.text(code.before(index)) not in (b"{", b","):
+            return False
+        before = code.before(before)
+        while code.is_name(before):
+            before = code.before(before)
+        return code.text(before) == b"enum"
 
     def is_given(self, stream, index, end):
         """Whether a value follows the name, and the `[..]` that belong to it."""
