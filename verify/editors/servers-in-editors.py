@@ -9,10 +9,10 @@ nvim and emacs with eglot (tried with those of Debian 12: 0.7.2, and 28.2 with 1
 ASCII. An editor that is not there is passed over. What they have to be told was worked out by hand.
 
     Tree      a small tree under git. Definitions of functions, also of static ones, of parameters,
-              of macros in headers and of headers on `#include` lines; hover; uses in all files, without the
-              names of definitions; the edits of a rename; highlights; symbols of a document and of
-              the workspace. Columns count behind letters outside ASCII. What git ignores is not
-              found, nor are links; a new file is
+              of macros in headers and of headers on `#include` lines; hover; uses in all files,
+              without the names of definitions; the edits of a rename; highlights; symbols of a
+              document and of the workspace. Columns count behind letters outside ASCII. What git
+              ignores is not found, nor are links; a new file is
     Edits     definitions follow what is typed before it is saved, and go back where it is undone.
               After a document is closed with its edit thrown away, answers are about the text that
               was saved, or else opened. So it is with a file that was never on disk

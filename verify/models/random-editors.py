@@ -8,19 +8,20 @@
 Session number n has the seed n. It has files of the command line or none, a profile, bounds and a
 root, and then 3 to 60 messages, more often those that do something where the session stands:
 documents are opened, changed as a whole and in parts, saved and closed, files are deleted and, in
-some sessions, read again from a folder, and requests ask at names, headers and any other place, in
-both encodings, for lists and trees. The folder holds the texts of the files, or other ones, and
-links, hard links, folders and pipes. In some sessions it is written to between two messages, with
-an event or without: files change, vanish and come back, or get a second name. Clients can be asked
-for events or not. Some sessions have more files of one name than are read again. Names are renamed,
-often where each file was opened or is on disk as the server has it, and then the client makes the
-edits: in each file the new name has to be used where the old one was, and nowhere else. Texts have
-CR LF, lone CRs, byte order marks, letters outside ASCII, halves of surrogate pairs and, in files
-and in messages, bytes that are not UTF-8. Paths, of the command line too, have empty segments and
-dots, or lead outside the root. Some messages have wrong parameters, ids or members, and between
-changes of documents some are cut, are not JSON or are too large; some heads are odd, and some
-inputs end within a message. The input comes in random pieces. Standard output, standard error and
-the status are compared with `server_model.py`.
+some sessions, read again from a folder. Requests ask at names, often those of labels, parameters
+and variables, at headers and at any other place, in both encodings, for lists and trees. The folder
+holds the texts of the files, or other ones, and links, hard links, folders and pipes. In some
+sessions it is written to between two messages, with an event or without: files change, vanish and
+come back, or get a second name. Clients can be asked for events or not. Some sessions have more
+files of one name than are read again. Names are renamed, often where each file was opened or is on
+disk as the server has it, and then the client makes the edits: in each file the new name has to be
+used where the old one was, and nowhere else. Texts have CR LF, lone CRs, byte order marks, letters
+outside ASCII, halves of surrogate pairs and, in files and in messages, bytes that are not UTF-8.
+Paths, of the command line too, have empty segments and dots, or lead outside the root. Some
+messages have wrong parameters, ids or members, and between changes of documents some are cut, are
+not JSON or are too large; some heads are odd, and some inputs end within a message. The input comes
+in random pieces. Standard output, standard error and the status are compared with
+`server_model.py`.
 
 At the first difference the seed, the input and both outputs are shown and the exit status is 1.
 Else lines tell how often each message was sent and each reply came.
@@ -44,6 +45,8 @@ from typing import NamedTuple, Optional
 
 from disk_model import Disk, Write, do_on_disk
 from draw import Draw
+from draw_names import DrawNames
+from locals_model import locals_of
 from server_model import MOST_BODY, Ended, Outcome, Server, frame, headers, name_of_operand
 from server_model import place_of, position_of, serve
 from session_model import Bounds, Refused, load
@@ -64,6 +67,7 @@ CROWD = [f"n{number:02}.c" for number in range(68)]  # more than are read again 
 CROWDED = ["int f(void) {{ return {}(1); }}\n", "#define f(x) {}(x)\n", "int f(int {}) {{\n}}\n",
            "int ab(void) {{ f({}); }}\n", "int g(void) {{ return {}(f(1)); }}\n"]
 WAYS = "definition", "hover", "prepareCallHierarchy", "references", "rename", "incoming"
+LOCAL_WAYS = [*WAYS[:5], "documentHighlight", "documentHighlight", "references", "prepareRename"]
 SYNC = b'{"id":"sync","method":"sync"}'  # its reply says that all before it was read
 DETOURS = ["//", "//", "/./", "/./", "///.//", "/../", "/x/../", "/.../", "/.x/"]
 NOT_NAMES = ["a b.c", "\u00e9.h", "a.cc", "a.txt", "", ".", "x" * 254 + ".c", "\n.c", "a.c?x"]
@@ -81,6 +85,11 @@ DEFINING = [
     "int {}(void) {{ /*" + "\u00e9\U0001f600x" * 60 + "*/ return {}(1); }}\n",
     " \tint " + "x" * 256 + "(void) {{ /*\U0001f600" + "\u0301" * 80 + "*/ return {}(2); }}\n",
     "int {}(void) {{ goto {}; {}: ; }}\n", "\tgoto {}; /*\U0001f600*/ goto {};\n", "{}:\n{}: ;\n",
+    "int {}(int {}, int *{}) {{\n\tint {} = {}; {{ int {}, {}; {} = {}++ + *{}; }}\n}}\n",
+    "int {}({}, {}) int {}; {{ for (int {} = 0; {}; ++{}) {}(&{}, {}); }}\n",
+    "\tint (*{})(int {}) = {}, /*\u00e9\U0001f600*/ {}[2] = {{ {} }}; {}: {} += {};\n",
+    "int {}(struct {} *{}) {{ struct {} {{ int {}; }} {}; enum {{ {} }}; return {}->{}.{}; }}\n",
+    '\tasm("x" : "=r"({}) : {}); {} * {}; extern int {}; int {}(int {}); {} = {};\n',
 ]
 MARK = b"\xef\xbb\xbf"
 HALVES = ["\ud83d", "\ude00", "\udbff\udfff", "\ude00\ud83d", "\\ud83d\ud83d", "\\\\\ud800f"]
@@ -140,6 +149,7 @@ class Editor:
 
     def __init__(self, seed: int, home: str):
         self.random, self.draw = random.Random(f"editor {seed}"), Draw(seed)
+        self.names = DrawNames(seed)
         self.profile = self.one(b"", b"", b"", b"--wide", b"--prototypes")
         self.folder = self.one(*FOLDERS) if self.chance(0.25) else None
         self.bounds = Bounds()
@@ -296,7 +306,7 @@ class Editor:
         text = found if isinstance(found, bytes) else known
         kind = self.random.random()
         if kind < 0.5:
-            line = self.one(*DEFINING).format("f", "g", "ab").encode()
+            line = self.one(*DEFINING).format(*["f", "g", "ab"] * 4).encode()
             return self.one(b"\n", b"\n\n", line) + text
         if kind < 0.6:
             return text[self.random.randint(0, len(text)) :]
@@ -314,10 +324,10 @@ class Editor:
 
     def text(self) -> bytes:
         """The bytes of a file."""
-        text = self.draw.wide_file() if self.chance(0.4) else self.draw.file()
+        text = self.one(*[self.draw.file] * 5, *[self.draw.wide_file] * 3, self.names.text)()
         if self.chance(0.5):
             lines = self.random.choices(DEFINING, k=self.one(1, 2, 4, 8, 16))
-            words = [self.random.choices(WORDS, k=3) for _ in lines]
+            words = [self.random.choices(WORDS, k=10) for _ in lines]
             more = "".join(line.format(*some) for line, some in zip(lines, words)).encode()
             text = self.one(more, more + text, text + more)
         for _ in range(self.one(0, 0, 0, 1, 2, 5)):
@@ -384,8 +394,9 @@ class Editor:
             [it.start() + self.one(0, len(it[0])) for it in words],
             [place + self.one(0, 1, len(it)) for place, it in headers(text)],
             [self.random.randint(0, len(text))],
+            [it.place + self.one(0, 0, 1, len(it.text)) for it in locals_of(text)],
         ]
-        weights = [bool(some) * weight for some, weight in zip(places, (8, 2, 3, 3))]
+        weights = [bool(some) * weight for some, weight in zip(places, (8, 2, 3, 3, 8))]
         place = self.one(*self.random.choices(places, weights)[0]) + self.one(0, 0, 0, 0, 1, -1)
         place = max(0, min(len(text), place))
         line, column = position_of(text, place, self.server.is_utf16)
@@ -496,12 +507,26 @@ class Editor:
         if way == "incoming":
             item = {"name": use.name.decode(), "uri": uri}
             return self.request("callHierarchy/incomingCalls", {"item": item})
-        line, column = position_of(text, use.place, self.server.is_utf16)
-        params: dict = {"textDocument": {"uri": uri}}
+        return self.at(file, use.place, way)
+
+    def at(self, file: bytes, place: int, way: str) -> dict:
+        """A question at a place of a file, with what any of them takes."""
+        text = self.server.world.files[file]
+        line, column = position_of(text, place, self.server.is_utf16)
+        params: dict = {"textDocument": {"uri": self.uri_of(file)}}
         params["position"] = {"line": line, "character": column}
         params["context"] = {"includeDeclaration": self.one(True, False)}
         params["newName"] = self.one(*NEW_NAMES)
         return self.request(f"textDocument/{way}", params)
+
+    def about_local(self) -> dict:
+        """A question at a name that means something in its function alone."""
+        files = self.server.world.files.items()
+        found = [(file, it) for file, text in files for it in locals_of(text)]
+        if not found:
+            return self.at_place()
+        file, token = self.one(*found)
+        return self.at(file, token.place + self.one(0, 1, len(token.text)), self.one(*LOCAL_WAYS))
 
     def about_crowd(self) -> dict:
         """A question about the name that all files of a crowd have."""
@@ -682,6 +707,7 @@ class Editor:
             self.watched: 4 if self.disk else 1,
             self.at_place: 14,
             self.references: 6,
+            self.about_local: 8,
             self.about_crowd: 40 if self.is_crowd else 0,
             self.rename: 20 if self.stays_closed else 4,
             self.symbols: 5,
@@ -876,6 +902,7 @@ def compare_in(home: str, cbrowse: str, seed: int):
     )
     came = re.sub(rb'not open: [^"]+', b"not open: NAME", out)
     told = collections.Counter(re.findall(kinds, came))
+    told.update(re.findall(rb'\}\},"(kind":[123])\}', came))
     told[b"status %d %s" % (expected.status, error.strip())] += 1
     return sent, told
 

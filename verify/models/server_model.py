@@ -1,9 +1,9 @@
 """What `cbrowse lsp` writes: a model of the language server, written from its rules alone.
 
 Messages are framed and judged here, documents are opened, changed and closed, and requests are
-answered. What texts hold is in `text_model.py` and `wide_model.py`, which texts and names of files
-are accepted is in `session_model.py`, and what is found on disk in `disk_model.py`. Memory never
-runs out here.
+answered. What texts hold is in `text_model.py` and `wide_model.py`, what a name means in its
+function alone in `locals_model.py`, which texts and names of files are accepted in
+`session_model.py`, and what is found on disk in `disk_model.py`. Memory never runs out here.
 """
 
 from __future__ import annotations
@@ -14,10 +14,10 @@ import re
 import sys
 from typing import Callable, NamedTuple, Optional
 
-import names_model
 import text_model
 import wide_model
 from disk_model import GONE, LINKED, UNREADABLE, Disk
+from locals_model import local_at
 from session_model import Bounds, Outcome, Refused, World, drop, is_file_name, load, reload, told
 from text_model import RESERVED, cut_lines, header, parts_of
 
@@ -69,6 +69,8 @@ COMPLETION_KINDS = {
     b"x": 6,
     b"p": 3,
 }
+# how what is done with a local is marked: it is only named, read, written, its address is taken
+MARKS = {"t": 1, "r": 2, "w": 3, "a": 3}
 PROFILES: dict[bytes, Callable] = {
     b"": text_model.facts,
     b"--wide": lambda text: wide_model.without_prototypes(wide_model.facts(text)),
@@ -348,32 +350,6 @@ def word_at(text, place):
     word = text[start:end]
     is_name = word and not word[:1].isdigit() and word not in RESERVED
     return (start, end) if is_name else None
-
-
-class Label(NamedTuple):
-    """A label: its name, where its function has it, and all places that name it."""
-
-    name: bytes
-    defined: list[int]
-    uses: list[int]
-
-
-@functools.lru_cache(maxsize=512)
-def names_of(text):
-    return names_model.Text(text)
-
-
-def label_at(text, place):
-    """The label that the name at a place names, or none."""
-    if b"goto" not in text and b":" not in text:
-        return None
-    names = names_of(text)
-    token = names.token_at(place)
-    thing = token and names.binding(token.place)
-    if thing is None or thing.kind != "label":
-        return None
-    uses = [it for it, _ in names.uses(thing)]
-    return Label(token.text, names.definitions.get(thing, []), uses)
 
 
 @functools.lru_cache(maxsize=4096)
@@ -893,9 +869,10 @@ class Server:
         if name is not None:
             zero = b'{"start":%s,"end":%s}' % ((position_form((0, 0)),) * 2)
             return listed(self.location(it, zero) for it in self.files_of_header(file, name))
-        label = label_at(text, place)
-        if label is not None:
-            return self.spans_of(file, label.name, label.defined[:1])
+        local = local_at(text, place)
+        if local is not None:
+            defined = [] if local.definition is None else [local.definition]
+            return self.spans_of(file, local.name, defined)
         word = word_at(text, place)
         meant = self.meant(file, text[word[0] : word[1]]) if word else []
         return listed(self.location(it.file, self.range_of(it)) for it in meant)
@@ -912,9 +889,10 @@ class Server:
         word = word_at(text, place)
         if file is None or word is None:
             return b"null"
-        label = label_at(text, place)
-        if label is not None:
-            lines = [(file, text.count(b"\n", 0, it) + 1) for it in label.defined[:1]]
+        local = local_at(text, place)
+        if local is not None:
+            start = local.definition
+            lines = [] if start is None else [(file, text.count(b"\n", 0, start) + 1)]
         else:
             meant = self.meant(file, text[word[0] : word[1]])[:MOST_HOVERED]
             lines = [(it.file, it.definition.line) for it in meant]
@@ -933,10 +911,10 @@ class Server:
         file, text, place = self.asked(params)
         if file is None:
             return b"null"
-        label = label_at(text, place)
-        if label is not None:
-            uses = [it for it in label.uses if is_wanted or it not in label.defined]
-            return self.spans_of(file, label.name, uses)
+        local = local_at(text, place)
+        if local is not None:
+            uses = [it.place for it in local.uses if is_wanted or not it.declares]
+            return self.spans_of(file, local.name, uses)
         word = word_at(text, place)
         name = text[word[0] : word[1]] if word else None
         named = self.named(name)[0]
@@ -952,7 +930,7 @@ class Server:
     def renamable(self, params):
         """The file of a request, its text, and the word at its place, if that may be renamed."""
         file, text, place = self.asked(params)
-        word = None if file is None or label_at(text, place) else word_at(text, place)
+        word = None if file is None or local_at(text, place) else word_at(text, place)
         if word is not None:
             name = text[word[0] : word[1]]
             used = (word[0], name) in [(it.place, it.name) for it in self.facts(text).uses]
@@ -1016,10 +994,13 @@ class Server:
         file, text, place = self.asked(params)
         if file is None:
             return b"null"
-        label = label_at(text, place)
-        if label is not None:
-            spans = (self.span_of(file, it, label.name) for it in label.uses)
-            return listed(b'{"range":%s,"kind":1}' % it for it in spans)
+        local = local_at(text, place)
+        if local is not None:
+            return listed(
+                b'{"range":%s,"kind":%d}'
+                % (self.span_of(file, it.place, local.name), MARKS[it.letter])
+                for it in local.uses
+            )
         word = word_at(text, place)
         name = text[word[0] : word[1]] if word else None
         found = [it.place for it in self.facts(text).uses if it.name == name]
@@ -1056,7 +1037,7 @@ class Server:
     def prepare_calls(self, params):
         file, text, place = self.asked(params)
         word = word_at(text, place)
-        if file is None or word is None or label_at(text, place):
+        if file is None or word is None or local_at(text, place):
             return b"null"
         meant = self.callable(file, text[word[0] : word[1]])
         return listed(self.item(it) for it in meant) if meant else b"null"

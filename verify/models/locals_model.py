@@ -1,0 +1,129 @@
+"""What a name means in its function alone, as `cbrowse` finds it: labels, parameters, variables.
+
+The rules are those of `names_model.py`, within what `docs/NAMES.md` names as limits: attributes
+that are left out name nothing, a structure in a function has no members, each part of an
+enumeration begins with an enumerator, and a value counts only directly behind the name that is
+declared.
+"""
+
+from __future__ import annotations
+
+import bisect
+import functools
+from typing import NamedTuple, Optional
+
+import names_model
+
+
+class LocalUse(NamedTuple):
+    """A place that names a local."""
+
+    place: int
+    letter: str  # what is done with it: `t` it is only named, `r` read, `w` written, `a` address
+    declares: bool
+
+
+class Local(NamedTuple):
+    """What a name means in its function: its name, its definition and its uses."""
+
+    name: bytes
+    definition: Optional[int]
+    uses: list[LocalUse]
+
+
+class Names(names_model.Text):
+    """The names of a text, within the limits."""
+
+    def find_in_body(self):
+        """Leaves out what structures in functions declare: members, and lists of parameters."""
+        inside = super().find_in_body()
+        self.members = {it for it in self.members if not inside[self.index[it]]}
+        firsts = ((part, part.items[0].token.place) for part in self.parts_of_file if part.items)
+        self.parts_of_file = [part for part, place in firsts if not inside[self.index[place]]]
+        return inside
+
+    def declare_in_blocks(self):
+        """Takes each name with which a part of an enumeration begins for an enumerator."""
+        tokens = enumerate(self.code.tokens)
+        self.enumerators = [it for index, it in tokens if it.is_name and self.is_enumerator(index)]
+        super().declare_in_blocks()
+
+    def is_enumerator(self, index):
+        """Whether a name is directly behind the `{` or a comma of an enumeration in a function, and
+        is not called."""
+        code, before = self.code, self.code.around[index]
+        if code.text(code.following(index)) == b"(":
+            return False
+        if self.kinds.get(before) != "body" or code.text(code.before(index)) not in (b"{", b","):
+            return False
+        before = code.before(before)
+        while code.is_name(before):
+            before = code.before(before)
+        return code.text(before) == b"enum"
+
+    def is_given(self, stream, index, end):
+        """Whether a value follows the name, and the `[..]` that belong to it."""
+        end = stream.following(index)
+        while stream.text(end) == b"[" and stream.pair[end] >= 0:
+            end = stream.following(stream.pair[end])
+        return self.is_assigned(stream, end)
+
+    @functools.cached_property
+    def left_out(self):
+        """The places of the tokens of attributes that are left out."""
+        tokens, found = self.code.tokens, set()
+        for first, last in self.code.hard_last.items():
+            found.update(token.place for token in tokens[first : last + 1])
+        return found
+
+    def is_in_function(self, thing):
+        """Whether the scope of a thing is in a function: else it is a list of the file."""
+        tokens = self.code.tokens
+        return any(
+            thing.start == tokens[one.start].place
+            or tokens[one.name].place <= thing.start <= tokens[one.last].place
+            for one in self.functions
+        )
+
+    def is_local(self, place):
+        """Whether a name means something in its function alone."""
+        thing = self.binding(place)
+        if place in self.left_out:
+            return False
+        is_variable = thing.kind == "local" and thing.space == "ordinary"
+        return thing.kind == "label" or (is_variable and self.is_in_function(thing))
+
+    def local(self, token):
+        """What a name means in its function."""
+        thing = self.binding(token.place)
+        declared = [it for it in self.definitions.get(thing, []) if it not in self.left_out]
+        behind = 1 if thing.kind == "label" else bisect.bisect_right(declared, token.place)
+        seen = declared[:behind]
+        uses = [
+            LocalUse(place, letter, place in declared)
+            for place, letter in self.uses(thing)
+            if place not in self.left_out
+        ]
+        return Local(token.text, seen[-1] if seen else None, uses)
+
+
+@functools.lru_cache(maxsize=512)
+def names_of(text):
+    return Names(text)
+
+
+def local_at(text, place):
+    """The local that the name at a place names, or none."""
+    if b"{" not in text:
+        return None
+    names = names_of(text)
+    token = names.token_at(place)
+    return names.local(token) if token and names.is_local(token.place) else None
+
+
+def locals_of(text):
+    """The names that name a local, each a token."""
+    if b"{" not in text:
+        return []
+    names = names_of(text)
+    return [token for token in names.tokens if names.is_local(token.place)]
