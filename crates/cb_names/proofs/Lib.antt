@@ -6,6 +6,7 @@ pub mod DeclaratorLemmas
 pub mod DeclaredLemmas
 pub mod HardLemmas
 pub mod LabelLemmas
+pub mod MacroLemmas
 pub mod PairingLemmas
 pub mod SignLemmas
 pub mod StatementLemmas
