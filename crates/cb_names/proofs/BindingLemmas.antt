@@ -241,6 +241,7 @@ module _ (xs : List Item) (named named' p q : ℕ → Bool) (s t : ℕ → Scope
       (λ i. record {
         definition = Some (span (at xs d));
         uses = uses_where (use_of xs p s (first i)) (λ k. named k && is_bound_in p s (first i) k) (length xs);
+        is_label = false;
       })
       ∙ (λ i. record {
         definition = Some (span (at xs d));
@@ -249,6 +250,7 @@ module _ (xs : List Item) (named named' p q : ℕ → Bool) (s t : ℕ → Scope
             (λ k le under. let within : k < length xs = omega (arith, under) in
             (λ j. names k within j && bound_same p q s t (length xs) same alike (t d).first k within j))
             (λ k le under. use_same (t d).first k (omega (arith, under))) i;
+        is_label = false;
       })
 
   pub variable_same : (k : ℕ) → k < length xs → variable_by xs named p s k ≡ variable_by xs named' q t k

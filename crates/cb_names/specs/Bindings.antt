@@ -62,6 +62,7 @@ variable_of xs named declares scope d = record {
   definition = Some (span (at xs d));
   uses = uses_where (use_of xs declares scope (scope d).first)
       (λ k. named k && is_bound_in declares scope (scope d).first k) (length xs);
+  is_label = false;
 }
 
 -- the local that index k names, if it names one

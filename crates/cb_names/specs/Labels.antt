@@ -58,6 +58,7 @@ label_of text xs b k = record {
       (find (λ j. is_label xs b j && is_same text xs j k) (range_with_len 0 (length xs)));
   uses = uses_where (λ j. label_use xs (is_label xs b j) j)
       (λ j. names_label xs b j && is_same text xs j k) (length xs);
+  is_label = true;
 }
 
 -- the label that the token at index k names, if it names one

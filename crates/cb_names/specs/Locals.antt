@@ -9,6 +9,8 @@ use Rattle.cb_names.specs.declared.local.LocalUse.{LocalUse}
 pub record LocalName : Type 0 where
   pub definition : Option Span
   pub uses : List LocalUse
+  -- it is a label
+  pub is_label : Bool
 
 -- the uses that the tokens among the first n are which pass a test
 abbrev pub uses_where : (ℕ → LocalUse) → (ℕ → Bool) → ℕ → List LocalUse

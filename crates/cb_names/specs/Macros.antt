@@ -120,11 +120,14 @@ is_made text ps ts k = is_parameter text ps ts k && (follows_maker text ts k || 
 abbrev pub takes_member : List ℕ → Bool
 takes_member w = bytes_eq w (codes "offsetof") || bytes_eq w (codes "__builtin_offsetof")
 
--- index k alone makes the arguments something else: `#`, which makes a text of one or pastes it; a
--- parameter as above; or what takes a member
+-- `#`, which makes a text of an argument or pastes it; also as `%:`
+abbrev pub is_hash : List Token → ℕ → Bool
+is_hash ts k = marks hash ts k || (marks 37 ts k && marks 58 ts (suc k))
+
+-- index k alone makes the arguments something else: `#`; a parameter as above; or what takes a member
 abbrev pub is_odd : List ℕ → (ps ts : List Token) → ℕ → Bool
 is_odd text ps ts k =
-    marks hash ts k || is_made text ps ts k || takes_member (name_at text ts k)
+    is_hash ts k || is_made text ps ts k || takes_member (name_at text ts k)
 
 abbrev pub are_odd : List ℕ → (ps ts : List Token) → Bool
 are_odd text ps ts = list_any (is_odd text ps ts) (range_with_len 0 (length ts))

@@ -124,7 +124,7 @@ fn is_literal(items: &[Item], index: u32) -> bool
 }
 
 /// Whether an operand ends with a token.
-fn ends_operand(items: &[Item], index: u32) -> bool
+pub(crate) fn ends_operand(items: &[Item], index: u32) -> bool
     ensures { result ≡ ends_operand items.now index }
 {
     is_name_at(items, index)

@@ -229,6 +229,7 @@ impl Named<'_> {
         Ok(Some(Local {
             definition: Some(span_at(self.shape.items.as_slice(), declared)),
             uses,
+            is_label: false,
         }))
     }
 }

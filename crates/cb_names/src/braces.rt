@@ -80,7 +80,7 @@ fn begins_value(items: &[Item], partners: &[Option<u32>], at: u32) -> bool
 }
 
 #[tactic(auto, unfolding(crate::specs::Braces::follows_separator))]
-fn follows_separator(items: &[Item], at: u32) -> bool
+pub(crate) fn follows_separator(items: &[Item], at: u32) -> bool
     ensures { result ≡ follows_separator items.now at }
 {
     at > 0 && matches!(sign(items, at - 1), b',' | b'{')

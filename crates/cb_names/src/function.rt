@@ -134,7 +134,7 @@ fn reaches(place: u32, range: &Range) -> bool
 }
 
 /// The function that ends first at a place or behind it.
-fn function_among(ranges: &[Range], place: u32) -> Option<Range>
+pub(crate) fn function_among(ranges: &[Range], place: u32) -> Option<Range>
     ensures { result ≡ find (λ (r : Range). nat_le place r.end) ranges.now }
 {
     for (i, range) in ranges.iter().enumerate() {
@@ -150,19 +150,6 @@ fn function_among(ranges: &[Range], place: u32) -> Option<Range>
 pub(crate) struct Function {
     pub range: Range,
     pub items: Vec<Item>,
-}
-
-/// The range of the function around a place, or of the next one.
-pub(crate) fn function_around(
-    alloc: Global,
-    source: &Source,
-    place: u32,
-) -> Result<Option<Range>, ScanError>
-    ensures value { IfOk result (λ found. found ≡ function_at source.now place) }
-    ensures memory { IfErr result (λ e. e ≡ ScanError.OutOfMemory) }
-{
-    let ranges = function_ranges(alloc, Rules::Wide, source)?;
-    Ok(function_among(ranges.as_slice(), place))
 }
 
 /// The function around a place, or the next one.
@@ -181,7 +168,8 @@ pub(crate) fn function_at(
         (λ f. AllByRecursion (IsItemOf source.now) f.items.items)) }
     ensures memory { IfErr result (λ e. e ≡ ScanError.OutOfMemory) }
 {
-    let Some(range) = function_around(alloc, source, place)? else {
+    let ranges = function_ranges(alloc, Rules::Wide, source)?;
+    let Some(range) = function_among(ranges.as_slice(), place) else {
         return Ok(None);
     };
     let tokens = code_tokens(alloc, source)?;

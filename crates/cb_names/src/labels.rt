@@ -212,6 +212,7 @@ pub(crate) fn label_of(
         Ok(Some(Local {
             definition: definition_of(text, items, begun, k),
             uses,
+            is_label: true,
         }))
     } else {
         Ok(None)

@@ -35,6 +35,6 @@ mod macros;
 mod names;
 
 pub use local::{Access, Local, LocalUse};
-pub use macros::{Macro, MacroName, macro_at};
+pub use macros::{Macro, MacroName, macro_at, takes_member};
 pub use meaning::local_at;
 pub use names::{Arguments, FunctionNames, function_names};

@@ -32,6 +32,7 @@ pub struct LocalUse {
 pub struct Local {
     pub(crate) definition: Option<Span>,
     pub(crate) uses: Vec<LocalUse>,
+    pub(crate) is_label: bool,
 }
 
 impl Model for Local {
@@ -39,7 +40,11 @@ impl Model for Local {
 
     ghost Value = { LocalName };
 
-    ghost view = { λ l. record { definition = l.definition; uses = l.uses.items } };
+    ghost view = { λ l. record {
+      definition = l.definition;
+      uses = l.uses.items;
+      is_label = l.is_label;
+    } };
 }
 
 impl Local {
@@ -56,6 +61,13 @@ impl Local {
         ensures { result.now ≡ self.now.uses }
     {
         self.uses.as_slice()
+    }
+
+    /// Whether it is a label.
+    pub fn is_label(&self) -> bool
+        ensures { result ≡ self.now.is_label }
+    {
+        self.is_label
     }
 }
 

@@ -6,7 +6,7 @@ ghost use Rattle.cb_scan.specs.CodeTokens.{IsSpanOf};
 ghost use Rattle.cb_scan.specs.rules.Depth.{token_at};
 ghost use Rattle.cb_scan.specs.rules.Macros.{begin_arguments};
 ghost use Rattle.cb_names.specs.Macros.{adjoins, are_odd, ends_arrow, follows_maker, follows_operand};
-ghost use Rattle.cb_names.specs.Macros.{has_tag, is_listed, is_made, is_member, is_odd, is_own_name};
+ghost use Rattle.cb_names.specs.Macros.{has_tag, is_hash, is_listed, is_made, is_member, is_odd, is_own_name};
 ghost use Rattle.cb_names.specs.Macros.{is_parameter, is_tag, list_len, listed, macro_name};
 ghost use Rattle.cb_names.specs.Macros.{macro_parts, marks, name_at, names, own_names, replacement};
 ghost use Rattle.cb_names.specs.Macros.{parts_by, takes_member};
@@ -121,6 +121,14 @@ fn ends_arrow(tokens: &[Token], at: usize) -> bool
     ensures { result ≡ ends_arrow tokens.now at }
 {
     at > 0 && marks(tokens, at, b'>') && marks(tokens, at - 1, b'-') && adjoins(tokens, at - 1)
+}
+
+/// Whether `#` is there, also as `%:`.
+fn is_hash(tokens: &[Token], at: usize) -> bool
+    requires { at + 1 < 2 ^ 64 }
+    ensures { result ≡ is_hash tokens.now at }
+{
+    marks(tokens, at, b'#') || (marks(tokens, at, b'%') && marks(tokens, at + 1, b':'))
 }
 
 /// Whether an operand may end directly before a token.
@@ -243,7 +251,7 @@ impl Text<'_> {
         requires within { at < length self.now.tokens.now }
         ensures { result ≡ is_odd self.now.bytes.now self.now.listed.now self.now.tokens.now at }
     {
-        marks(self.tokens, at, b'#')
+        is_hash(self.tokens, at)
             || self.is_made(at)
             || takes_member(name_at(self.bytes, self.tokens, at))
     }
@@ -268,7 +276,7 @@ fn either(first: bool, second: bool) -> bool
 }
 
 /// Whether a name is that of what takes a member as an argument.
-fn takes_member(name: &[u8]) -> bool
+pub fn takes_member(name: &[u8]) -> bool
     ensures { result ≡ takes_member name.now }
 {
     name == b"offsetof".as_slice() || name == b"__builtin_offsetof".as_slice()

@@ -1,21 +1,30 @@
 //! The names of the function around a place, and which of them have arguments.
-ghost use Rattle.std.specs.Prelude.{◌≡◌, ◌<◌, ◌+◌, ◌^◌, ◌++◌, ◌∷◌, [], IfErr, IfOk, length};
-ghost use Rattle.std.specs.Prelude.{if◌then◌else◌};
+ghost use Rattle.std.specs.Prelude.{◌≡◌, ◌<◌, ◌≤◌, ◌-◌, ◌^◌, ◌++◌, ◌∷◌, [], IfErr, IfOk, find, length};
+ghost use Rattle.std.specs.Prelude.{if◌then◌else◌, nat_le, nat_lt};
+ghost use Rattle.std.specs.Option.{option_map};
+ghost use Rattle.std.specs.List.{list_any, range_with_len};
+ghost use Rattle.cb_scan.specs.declared.rules.scope.Range.{Range as FunctionRange};
 ghost use Rattle.cb_names.specs.Declarations.{is_name_item};
-ghost use Rattle.cb_names.specs.FunctionNames.{arguments_at, arguments_of, first_start};
-ghost use Rattle.cb_names.specs.FunctionNames.{function_names, has_arguments, names_by, names_of};
-ghost use Rattle.cb_names.specs.Functions.{extent, items};
-ghost use Rattle.cb_names.specs.Pairs.{partner};
+ghost use Rattle.cb_names.specs.FunctionNames.{arguments_at, arguments_of, ends_itself, first_start};
+ghost use Rattle.cb_names.specs.FunctionNames.{follows_label_sign, function_names, goes_on};
+ghost use Rattle.cb_names.specs.FunctionNames.{has_arguments, has_hard, is_in_body, is_lone_end};
+ghost use Rattle.cb_names.specs.FunctionNames.{is_unsure, is_whole, names_by, names_in, names_of, next_name};
+ghost use Rattle.cb_names.specs.FunctionNames.{unsure_of};
+ghost use Rattle.cb_names.specs.Functions.{items};
+ghost use Rattle.cb_names.specs.HardAttributes.{without_hard};
+ghost use Rattle.cb_names.specs.Pairs.{innermost, partner};
 ghost use Rattle.cb_names.specs.Tables.{IsTable};
 
-use crate::braces::is_name_at;
-use crate::function::{extent, function_around, items_of};
+use crate::accesses::ends_operand;
+use crate::braces::{follows_separator, is_name_at};
+use crate::function::{before, body_of, extent, function_among, items_of};
 use crate::hard::without_hard;
 use crate::labels::span_at;
 use crate::pairs::{answer, pairs_of, sign};
-use crate::spaces::start_at;
-use crate::word::Item;
-use cb_scan::{Range, ScanError, Source, Span, code_tokens};
+use crate::spaces::{follows_keyword, start_at, touches};
+use crate::statements::is_lone_colon;
+use crate::word::{Item, Word};
+use cb_scan::{Range, Rules, ScanError, Source, Span, code_tokens, function_ranges};
 use std::alloc::{AllocError, Global};
 use std::marker::Model;
 
@@ -34,6 +43,8 @@ pub struct FunctionNames {
     names: Vec<Span>,
     own: Vec<Span>,
     arguments: Vec<Arguments>,
+    unsure: Vec<Span>,
+    whole: bool,
 }
 
 impl Model for FunctionNames {
@@ -46,6 +57,8 @@ impl Model for FunctionNames {
       names = f.names.items;
       own = f.own.items;
       arguments = f.arguments.items;
+      unsure = f.unsure.items;
+      whole = f.whole;
     } };
 }
 
@@ -76,6 +89,22 @@ impl FunctionNames {
         ensures { result.now ≡ self.now.arguments }
     {
         self.arguments.as_slice()
+    }
+
+    /// Those of which the rules cannot tell what they mean: they stand in the body of a structure,
+    /// are the label whose address is taken, or name what a value is given to in the old way.
+    pub fn unsure(&self) -> &[Span]
+        ensures { result.now ≡ self.now.unsure }
+    {
+        self.unsure.as_slice()
+    }
+
+    /// Whether all of the function is there: its end closes its body alone, no brace that is closed
+    /// behind it is open there, and no part of its code is hidden in `asm`.
+    pub fn is_whole(&self) -> bool
+        ensures { result ≡ self.now.whole }
+    {
+        self.whole
     }
 }
 
@@ -156,6 +185,158 @@ fn arguments_of(alloc: Global, items: &[Item]) -> Result<Vec<Arguments>, AllocEr
     Ok(found)
 }
 
+/// Whether `&&` is directly before a token, and behind no operand.
+#[tactic(auto, unfolding(crate::specs::FunctionNames::follows_label_sign, crate::specs::FunctionNames::follows_operand))]
+fn follows_label_sign(items: &[Item], at: u32) -> bool
+    ensures { result ≡ follows_label_sign items.now at }
+{
+    at > 1
+        && sign(items, at - 1) == b'&'
+        && sign(items, at - 2) == b'&'
+        && touches(items, at as usize - 2)
+        && !(at > 2 && ends_operand(items, at - 3))
+}
+
+/// Whether the innermost bracket around a token is the `{` of a structure, union or enumeration.
+fn is_in_body(items: &[Item], around: &[Option<u32>], at: u32) -> bool
+    requires within { at < length items.now }
+    requires around { IsTable (innermost items.now) (length items.now) around.now }
+    ensures { result ≡ is_in_body items.now at }
+{
+    match answer(around, at) {
+        Some(bracket) => sign(items, bracket) == b'{' && follows_keyword(items, bracket),
+        None => false,
+    }
+}
+
+/// Whether a token is a name of which the rules cannot tell what it means.
+fn is_unsure(items: &[Item], around: &[Option<u32>], at: u32) -> bool
+    requires few { length items.now < 2 ^ 32 }
+    requires within { at < length items.now }
+    requires around { IsTable (innermost items.now) (length items.now) around.now }
+    ensures { result ≡ is_unsure items.now at }
+{
+    is_name_at(items, at)
+        && (follows_label_sign(items, at)
+            || (follows_separator(items, at) && is_lone_colon(items, at + 1))
+            || is_in_body(items, around, at))
+}
+
+/// Appends a span, if it is wanted.
+fn push_span_if(is_wanted: bool, one: Span, found: &mut Vec<Span>) -> Result<(), AllocError>
+    ensures { IfOk result
+        (λ _. found.new.items ≡ found.old.items ++ (if is_wanted then one ∷ [] else [])) }
+{
+    if is_wanted {
+        found.push(one)?;
+    }
+    Ok(())
+}
+
+/// All names of which the rules cannot tell what they mean.
+fn unsure_of(alloc: Global, items: &[Item], around: &[Option<u32>]) -> Result<Vec<Span>, AllocError>
+    requires few { length items.now < 2 ^ 32 }
+    requires around { IsTable (innermost items.now) (length items.now) around.now }
+    ensures { IfOk result (λ found. found.items ≡ unsure_of items.now) }
+{
+    let mut found = Vec::new(alloc);
+    for at in 0..items.len() as u32 {
+        push_span_if(is_unsure(items, around, at), span_at(items, at), &mut found)?;
+    }
+    Ok(found)
+}
+
+/// Whether the last token closes the body, and no other bracket with it.
+fn ends_itself(items: &[Item], around: &[Option<u32>], body: u32) -> bool
+    requires few { length items.now < 2 ^ 32 }
+    requires around { IsTable (innermost items.now) (length items.now) around.now }
+    ensures { result ≡ ends_itself items.now body }
+{
+    if items.is_empty() {
+        return false;
+    }
+    let last = items.len() as u32 - 1;
+    sign(items, last) == b'}'
+        && match answer(around, last) {
+            Some(bracket) => bracket == body,
+            None => false,
+        }
+}
+
+/// Whether a word of an attribute is left.
+fn has_hard(items: &[Item]) -> bool
+    ensures { result ≡ has_hard items.now }
+{
+    for i in 0..items.len() {
+        if matches!(items[i].word, Word::Hard) {
+            return true;
+        }
+    }
+    false
+}
+
+/// The first function whose name begins behind a place.
+fn function_behind(ranges: &[Range], place: u32) -> Option<Range>
+    ensures { result ≡ find (λ (q : FunctionRange). nat_lt place q.name.start) ranges.now }
+{
+    for i in 0..ranges.len() {
+        if place < ranges[i].name.start {
+            return Some(ranges[i]);
+        }
+    }
+    None
+}
+
+/// The index where the name of the next function is, among all tokens.
+fn next_name(items: &[Item], ranges: &[Range], range: Range) -> usize
+    ensures value { result ≡ next_name items.now ranges.now range }
+    ensures within { result ≤ length items.now }
+{
+    match function_behind(ranges, range.end) {
+        Some(next) => before(next.name.start, items),
+        None => items.len(),
+    }
+}
+
+/// Whether a token is a `}` with no partner.
+fn is_lone_end(items: &[Item], partners: &[Option<u32>], at: u32) -> bool
+    requires within { at < length items.now }
+    requires partners { IsTable (partner items.now) (length items.now) partners.now }
+    ensures { result ≡ is_lone_end items.now at }
+{
+    sign(items, at) == b'}' && answer(partners, at).is_none()
+}
+
+/// Whether one is among some tokens.
+fn has_lone_end(items: &[Item], partners: &[Option<u32>], from: u32, to: u32) -> bool
+    requires within { to ≤ length items.now }
+    requires partners { IsTable (partner items.now) (length items.now) partners.now }
+    ensures { result ≡ list_any (is_lone_end items.now) (range_with_len from (to - from)) }
+{
+    for at in from..to {
+        if is_lone_end(items, partners, at) {
+            return true;
+        }
+    }
+    false
+}
+
+/// Whether parts of a function may be behind its end.
+fn goes_on(
+    alloc: Global,
+    items: &[Item],
+    ranges: &[Range],
+    range: Range,
+) -> Result<bool, AllocError>
+    requires { length items.now < 2 ^ 32 }
+    ensures { IfOk result (λ on. on ≡ goes_on items.now ranges.now range) }
+{
+    let pairs = pairs_of(alloc, items)?;
+    let from = before(range.end, items) as u32;
+    let to = next_name(items, ranges, range) as u32;
+    Ok(has_lone_end(items, pairs.partner.as_slice(), from, to))
+}
+
 fn first_start(items: &[Item]) -> u32
     ensures { result ≡ first_start items.now }
 {
@@ -165,38 +346,100 @@ fn first_start(items: &[Item]) -> u32
     }
 }
 
-/// What is known of a function, by its tokens and its end.
-fn names_by(alloc: Global, items: &[Item], end: u32) -> Result<FunctionNames, AllocError>
+/// Whether all of a function is there.
+fn is_whole(items: &[Item], around: &[Option<u32>], range: Range, goes_on: bool) -> bool
+    requires few { length items.now < 2 ^ 32 }
+    requires around { IsTable (innermost items.now) (length items.now) around.now }
+    ensures { result ≡ is_whole items.now range goes_on }
+{
+    let body = body_of(items, range) as u32;
+    ends_itself(items, around, body) && !has_hard(items) && !goes_on
+}
+
+/// What is known of a function, by its tokens, its range, and whether it goes on.
+fn names_by(
+    alloc: Global,
+    items: &[Item],
+    range: Range,
+    goes_on: bool,
+) -> Result<FunctionNames, AllocError>
     requires { length items.now < 2 ^ 32 }
-    ensures { IfOk result (λ f. f ≡ names_by items.now end) }
+    ensures { IfOk result (λ f. f ≡ names_by items.now (without_hard items.now) range goes_on) }
 {
     let names = names_of(alloc, items)?;
     let kept = without_hard(alloc, items)?;
-    let own = names_of(alloc, kept.as_slice())?;
-    let arguments = arguments_of(alloc, kept.as_slice())?;
+    let kept = kept.as_slice();
+    let own = names_of(alloc, kept)?;
+    let arguments = arguments_of(alloc, kept)?;
+    let pairs = pairs_of(alloc, kept)?;
+    let unsure = unsure_of(alloc, kept, pairs.around.as_slice())?;
     Ok(FunctionNames {
         extent: Span {
             start: first_start(items),
-            end,
+            end: range.end,
         },
         names,
         own,
         arguments,
+        unsure,
+        whole: is_whole(kept, pairs.around.as_slice(), range, goes_on),
     })
 }
 
-/// The same of a range, by the tokens of the code.
-fn names_in(alloc: Global, source: &Source, range: Range) -> Result<FunctionNames, ScanError>
-    ensures value { IfOk result (λ f. f ≡ names_by (extent (items source.now) range) range.end) }
+/// The same by all tokens and all functions.
+fn names_in(
+    alloc: Global,
+    items: &[Item],
+    ranges: &[Range],
+    range: Range,
+) -> Result<FunctionNames, AllocError>
+    requires { length items.now < 2 ^ 32 }
+    ensures { IfOk result (λ f. f ≡ names_in items.now ranges.now range) }
+{
+    let goes_on = goes_on(alloc, items, ranges, range)?;
+    match names_by(alloc, extent(items, range), range, goes_on) {
+        Ok(names) => Ok(names),
+        Err(error) => Err(error),
+    }
+}
+
+/// The same, by the functions of a text and one of them.
+fn names_of_range(
+    alloc: Global,
+    source: &Source,
+    ranges: &[Range],
+    range: Range,
+) -> Result<FunctionNames, ScanError>
+    ensures value { IfOk result (λ f. f ≡ names_in (items source.now) ranges.now range) }
     ensures memory { IfErr result (λ e. e ≡ ScanError.OutOfMemory) }
 {
     let tokens = code_tokens(alloc, source)?;
     let Ok(items) = items_of(alloc, source.bytes(), tokens.as_slice()) else {
         return Err(ScanError::OutOfMemory);
     };
-    match names_by(alloc, extent(items.as_slice(), range), range.end) {
+    match names_in(alloc, items.as_slice(), ranges, range) {
         Ok(names) => Ok(names),
         Err(_) => Err(ScanError::OutOfMemory),
+    }
+}
+
+/// The same of the function around a place, if there is one.
+fn names_at(
+    alloc: Global,
+    source: &Source,
+    ranges: &[Range],
+    place: u32,
+) -> Result<Option<FunctionNames>, ScanError>
+    ensures value { IfOk result (λ found. found ≡ option_map (names_in (items source.now) ranges.now)
+        (find (λ (r : FunctionRange). nat_le place r.end) ranges.now)) }
+    ensures memory { IfErr result (λ e. e ≡ ScanError.OutOfMemory) }
+{
+    let Some(range) = function_among(ranges, place) else {
+        return Ok(None);
+    };
+    match names_of_range(alloc, source, ranges, range) {
+        Ok(names) => Ok(Some(names)),
+        Err(error) => Err(error),
     }
 }
 
@@ -207,15 +450,12 @@ pub fn function_names(
     source: &Source,
     place: u32,
 ) -> Result<Option<FunctionNames>, ScanError>
-    ensures value { IfOk result
-        (λ found. found ≡ function_names source.now place) }
+    ensures value { IfOk result (λ found. found ≡ function_names source.now place) }
     ensures memory { IfErr result (λ e. e ≡ ScanError.OutOfMemory) }
 {
-    match function_around(alloc, source, place)? {
-        Some(range) => match names_in(alloc, source, range) {
-            Ok(names) => Ok(Some(names)),
-            Err(error) => Err(error),
-        },
-        None => Ok(None),
+    let ranges = function_ranges(alloc, Rules::Wide, source)?;
+    match names_at(alloc, source, ranges.as_slice(), place) {
+        Ok(names) => Ok(names),
+        Err(error) => Err(error),
     }
 }

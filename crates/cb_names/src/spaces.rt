@@ -98,7 +98,7 @@ fn after_keyword(items: &[Item], index: u32) -> bool
 
 /// Whether one of the three words is directly before a token, or directly before the names there.
 #[tactic(auto, unfolding(crate::specs::Braces::follows_keyword))]
-fn follows_keyword(items: &[Item], index: u32) -> bool
+pub(crate) fn follows_keyword(items: &[Item], index: u32) -> bool
     ensures { result ≡ follows_keyword items.now index }
 {
     let mut left = index;

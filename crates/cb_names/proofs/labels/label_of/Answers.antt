@@ -1,4 +1,4 @@
-use Rattle.std.proofs.Common.{◌∙◌, Some, sym, ap}
+use Rattle.std.proofs.Common.{◌∙◌, true, Some, sym, ap}
 use Rattle.std.specs.Option.{option_map}
 use Rattle.cb_names.specs.Labels.{span}
 use Rattle.cb_names.specs.Pairs.{at}
@@ -21,7 +21,7 @@ returns-in_ok-uses c =
     let uses_are = c.in_ok-uses.ensures
     ∙ ap (λ l. uses_by c.args.text.now l c.args.begun.now c.args.k) items
     ∙ uses_same c.args.text.now xs s.body c.args.k c.args.begun.now c.requires.starts in
-    (λ i. Some (record { definition = def_is i; uses = uses_are i }))
+    (λ i. Some (record { definition = def_is i; uses = uses_are i; is_label = true }))
     ∙ sym (named c.args.text.now xs s.body c.args.k c.args.begun.now c.requires.starts c.requires.index is)
 
 pub returns-else-names_label : goal.returns-else-names_label
