@@ -1,0 +1,145 @@
+-- Where the uses of a local have a new word, that no ordinary name has, all names are bound as before.
+use Rattle.std.proofs.Common.{◌≡◌, ◌≢◌, ◌∙◌, ◌<◌, ◌≤◌, ◌⊎◌, ℕ, suc, Bool, true, false, List, Option, Some, None}
+use Rattle.std.proofs.Common.{⊎_elim, inl, inr, refl, sym, ap, subst, arith}
+use Rattle.std.proofs.lemmas.Bool.{and_from, and_parts, cases_Bool, false≢true}
+use Rattle.std.proofs.lemmas.Slice.Eq.{bytes_eq-Decides}
+use Rattle.std.specs.Prelude.{◌&&◌, ◌==◌, cond}
+use Rattle.std.specs.Option.{option_map_or}
+use Rattle.std.specs.Str.{bytes_eq}
+use Rattle.cb_names.specs.Bindings.{binding, is_bound_in, seen_before}
+use Rattle.cb_names.specs.Renaming.{bound_by, declares_word, has, is_use_by, renamed}
+use Rattle.cb_names.specs.declared.scopes.Scope.{Scope}
+use Rattle.cb_names.proofs.SeenLemmas.{Seen, seen_is, still_seen}
+
+-- words are the same, or not
+pub word_is : (v w : List ℕ) → bytes_eq v w ≡ true → v ≡ w
+word_is v w = (bytes_eq-Decides v w).0
+
+pub is_word : (v w : List ℕ) → v ≡ w → bytes_eq v w ≡ true
+is_word v w = (bytes_eq-Decides v w).1
+
+either : (a b : Bool) → (a ≡ true → b ≡ true) → (b ≡ true → a ≡ true) → a ≡ b
+either true b to from = sym (to refl)
+either false b to from = ⊎_elim (λ is. absurd (false≢true (from is))) sym (cases_Bool b)
+
+module _ (l : ℕ) (ordinary declares : ℕ → Bool) (word : ℕ → List ℕ) (scope : ℕ → Scope) (name new : List ℕ) (first : ℕ)
+    (fresh : (k : ℕ) → k < l → has word ordinary new k ≡ false)
+    (own : (k : ℕ) → k < l → declares_word word ordinary declares name k ≡ true
+    → binding (declares_word word ordinary declares name) scope k ≡ Some k) where
+  abbrev edited : ℕ → Bool
+  edited = is_use_by word ordinary declares scope name first
+
+  abbrev after : ℕ → List ℕ
+  after = renamed word edited new
+
+  abbrev declared : List ℕ → ℕ → Bool
+  declared = declares_word word ordinary declares
+
+  -- no ordinary name has the new word
+  unlike : (k : ℕ) → k < l → ordinary k ≡ true → word k ≡ new → ⊥
+  unlike k less is same =
+      false≢true (sym (fresh k less) ∙ and_from (ordinary k) (bytes_eq (word k) new) is (is_word (word k) new same))
+
+  -- an index that is edited has the name
+  had : (k : ℕ) → edited k ≡ true → word k ≡ name
+  had k is =
+      word_is (word k) name (and_parts (ordinary k) (bytes_eq (word k) name)
+      (and_parts (has word ordinary name k) (is_bound_in (declared name) scope first k) is).0).1
+
+  in_scope : (k : ℕ) → edited k ≡ true → is_bound_in (declared name) scope first k ≡ true
+  in_scope k is = (and_parts (has word ordinary name k) (is_bound_in (declared name) scope first k) is).1
+
+  -- which word is had behind
+  new_is : (k : ℕ) → edited k ≡ true → after k ≡ new
+  new_is k is = ap (λ b. cond b new (word k)) is
+
+  old_is : (k : ℕ) → edited k ≡ false → after k ≡ word k
+  old_is k is = ap (λ b. cond b new (word k)) is
+
+  -- words that are the same behind were the same before
+  pub were_same : (i k : ℕ) → i < l → k < l → ordinary i ≡ true → ordinary k ≡ true → after i ≡ after k → word i ≡ word k
+  were_same i k less_i less_k o_i o_k same =
+      ⊎_elim
+      (λ e_i. ⊎_elim
+      (λ e_k. had i e_i ∙ sym (had k e_k))
+      (λ n_k. absurd (unlike k less_k o_k (sym (old_is k n_k) ∙ sym same ∙ new_is i e_i)))
+      (cases_Bool (edited k)))
+      (λ n_i. ⊎_elim
+      (λ e_k. absurd (unlike i less_i o_i (sym (old_is i n_i) ∙ same ∙ new_is k e_k)))
+      (λ n_k. sym (old_is i n_i) ∙ same ∙ old_is k n_k)
+      (cases_Bool (edited k)))
+      (cases_Bool (edited i))
+
+  -- words that were the same stay the same where both are edited or neither
+  stay_same : (i k : ℕ) → edited i ≡ edited k → word i ≡ word k → after i ≡ after k
+  stay_same i k alike same = (λ j. cond (alike j) new (same j))
+
+  -- a declaration of the name is edited where its scope is that one
+  bound_is : (d : ℕ) → d < l → declared name d ≡ true → is_bound_in (declared name) scope first d ≡ ((scope d).first == first)
+  bound_is d less is = ap (λ o. option_map_or (λ e. (scope e).first == first) o false) (own d less is)
+
+  -- an index is edited where the declaration is to which it is bound
+  pub edited_alike : (k d : ℕ) → k < l → ordinary k ≡ true → bound_by word ordinary declares scope k ≡ Some d
+      → edited d ≡ edited k
+  edited_alike k d less o_k is =
+      either (edited d) (edited k)
+      (λ e_d. let w = sym same ∙ had d e_d in
+      and_from _ _ (and_from (ordinary k) (bytes_eq (word k) name) o_k (is_word (word k) name w))
+      (here w ∙ sym (bound_is d d_less (named w)) ∙ in_scope d e_d))
+      (λ e_k. let w = had k e_k in
+      and_from _ _ (and_parts (has word ordinary name d) (declares d) (named w)).0
+      (bound_is d d_less (named w) ∙ sym (here w) ∙ in_scope k e_k))
+    where
+      s : Seen scope (declared (word k)) k (suc k) d
+      s = seen_is scope (declared (word k)) k (suc k) d is
+
+      d_less : d < l
+      d_less = omega (arith, s.less, less)
+
+      is_declared : declared (word k) d ≡ true
+      is_declared = (and_parts (declared (word k) d) _ s.is).0
+
+      same : word d ≡ word k
+      same = word_is (word d) (word k) (and_parts (ordinary d) (bytes_eq (word d) (word k))
+          (and_parts (has word ordinary (word k) d) (declares d) is_declared).0).1
+
+      named : word k ≡ name → declared name d ≡ true
+      named w = sym (ap (λ n. declared n d) w) ∙ is_declared
+
+      here : word k ≡ name → is_bound_in (declared name) scope first k ≡ ((scope d).first == first)
+      here w = ap (λ o. option_map_or (λ e. (scope e).first == first) o false) (sym (ap (λ n. binding (declared n) scope k) w) ∙ is)
+
+  -- each ordinary name is bound as before
+  pub bound_same : (k : ℕ) → k < l → ordinary k ≡ true
+      → bound_by after ordinary declares scope k ≡ bound_by word ordinary declares scope k
+  bound_same k less o_k =
+      still_seen scope (declared (word k)) (declares_word after ordinary declares (after k)) k (suc k) fewer kept
+    where
+      fewer : (i : ℕ) → i < suc k → declares_word after ordinary declares (after k) i ≡ true → declared (word k) i ≡ true
+      fewer i under is =
+          let parts = and_parts (has after ordinary (after k) i) (declares i) is in
+          let of_name = and_parts (ordinary i) (bytes_eq (after i) (after k)) parts.0 in
+          and_from _ _ (and_from (ordinary i) (bytes_eq (word i) (word k)) of_name.0
+          (is_word (word i) (word k) (were_same i k (omega (arith, under, less)) less of_name.0 o_k
+          (word_is (after i) (after k) of_name.1)))) parts.1
+
+      kept : (e : ℕ) → seen_before (declared (word k)) scope k (suc k) ≡ Some e
+          → declares_word after ordinary declares (after k) e ≡ true
+      kept e is =
+          let s = seen_is scope (declared (word k)) k (suc k) e is in
+          let parts = and_parts (has word ordinary (word k) e) (declares e) (and_parts (declared (word k) e) _ s.is).0 in
+          let of_name = and_parts (ordinary e) (bytes_eq (word e) (word k)) parts.0 in
+          and_from _ _ (and_from (ordinary e) (bytes_eq (after e) (after k)) of_name.0
+          (is_word (after e) (after k) (stay_same e k (edited_alike k e less o_k is)
+          (word_is (word e) (word k) of_name.1)))) parts.1
+
+  -- the new word is that of the indices that are edited, and of no other ordinary name
+  pub new_exactly : (k : ℕ) → k < l → has after ordinary new k ≡ edited k
+  new_exactly k less =
+      ⊎_elim
+      (λ e. and_from (ordinary k) (bytes_eq (after k) new)
+      (and_parts (ordinary k) (bytes_eq (word k) name)
+      (and_parts (has word ordinary name k) (is_bound_in (declared name) scope first k) e).0).0
+      (is_word (after k) new (new_is k e)) ∙ sym e)
+      (λ n. ap (λ w. ordinary k && bytes_eq w new) (old_is k n) ∙ fresh k less ∙ sym n)
+      (cases_Bool (edited k))
