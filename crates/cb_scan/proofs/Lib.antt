@@ -24,6 +24,7 @@ pub mod Lengths
 pub mod LineLemmas
 pub mod LinePlaces
 pub mod LineTable
+pub mod LineTokenLemmas
 pub mod LinedPieces
 pub mod Literals
 pub mod MacroLines

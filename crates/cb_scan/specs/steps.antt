@@ -5,6 +5,7 @@ pub mod Functions
 pub mod Heads
 pub mod Lanes
 pub mod LineStarts
+pub mod LineTokens
 pub mod Lined
 pub mod Quote
 pub mod Scopes

@@ -30,5 +30,5 @@ pub use rules::wide::attribute::attribute_len;
 pub use rules::wide::naming::{PartNames, part_names};
 pub use rules::wide::role::WideRole;
 pub use rules::wide::token::WideToken;
-pub use scanner::{code_tokens, function_ranges, scan};
+pub use scanner::{code_tokens, function_ranges, line_tokens, scan};
 pub use source::{ScanError, Source};

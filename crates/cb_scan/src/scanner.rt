@@ -1,10 +1,10 @@
 //! The scanner: one pass over the pieces of a text, and then its facts in order and with their
 //! scopes.
-ghost use Rattle.std.specs.Prelude.{◌≡◌, ◌+◌, ◌^◌, ◌-◌, ◌<◌, ◌≤◌, min, List, length, IfOk, IfErr};
+ghost use Rattle.std.specs.Prelude.{◌≡◌, ◌+◌, ◌^◌, ◌-◌, ◌<◌, ◌≤◌, min, List, length, drop, IfOk, IfErr};
 ghost use Rattle.cb_scan.specs.declared.lex.piece.Piece.{Piece};
 ghost use Rattle.cb_scan.specs.declared.source.TheConstants.{MOST_BYTES};
 ghost use Rattle.std.specs.List.{AllByRecursion};
-ghost use Rattle.cb_scan.specs.CodeTokens.{IsTokenOf, code_by, code_of};
+ghost use Rattle.cb_scan.specs.CodeTokens.{IsSpanOf, IsTokenOf, code_by, code_of, first_line};
 ghost use Rattle.cb_scan.specs.Definitions.{AreWithin};
 ghost use Rattle.cb_scan.specs.lex.Pieces.{IsPieces};
 ghost use Rattle.cb_scan.specs.lex.Tokens.{is_significant};
@@ -18,6 +18,7 @@ mod wide;
 
 use crate::facts::Facts;
 use crate::lex::piece::Class;
+use crate::lex::token::Token;
 use crate::meter::Meter;
 use crate::profile::{Profile, Rules};
 use crate::rules::scope::Range;
@@ -125,6 +126,23 @@ pub fn code_tokens(alloc: Global, source: &Source) -> Result<Vec<WideToken>, Sca
     ensures memory { IfErr result (λ e. e ≡ ScanError.OutOfMemory) }
 {
     match code::code_in(alloc, source.bytes()) {
+        Ok(tokens) => Ok(tokens),
+        Err(_) => Err(ScanError::OutOfMemory),
+    }
+}
+
+/// The tokens of a logical line from a place on, which are those of the first line of the bytes from
+/// there on: their places count from it. They lie in these bytes (`within`). Refused memory is the
+/// only error. Time in proportion to the line.
+pub fn line_tokens(alloc: Global, source: &Source, place: u32) -> Result<Vec<Token>, ScanError>
+    ensures tokens { IfOk result (λ ts. ts.items ≡ first_line (drop place source.now)) }
+    ensures within { IfOk result
+        (λ ts. AllByRecursion (IsSpanOf (drop place source.now)) ts.items) }
+    ensures few { IfOk result (λ ts. length ts.items < 2 ^ 32) }
+    ensures memory { IfErr result (λ e. e ≡ ScanError.OutOfMemory) }
+{
+    let text = source.bytes();
+    match code::first_line(alloc, &text[text.len().min(place as usize)..]) {
         Ok(tokens) => Ok(tokens),
         Err(_) => Err(ScanError::OutOfMemory),
     }

@@ -1,7 +1,7 @@
 use Rattle.std.proofs.Common.{◌≡◌, ◌∙◌, ◌++◌, ◌∷◌, ◌<◌, ◌≤◌, [], true, sym, ap, subst, length, arith}
 use Rattle.std.proofs.lemmas.List.{append-nil}
 use Rattle.std.specs.List.{AllByRecursion}
-use Rattle.cb_scan.specs.CodeTokens.{IsTokenOf, code_of}
+use Rattle.cb_scan.specs.CodeTokens.{IsTokenOf}
 use Rattle.cb_scan.specs.declared.rules.directives.Stage.TheVariants.{Start}
 use Rattle.cb_scan.specs.declared.rules.functions.Before.TheVariants.{Anything}
 use Rattle.cb_scan.specs.declared.lex.token.Token.{Token}

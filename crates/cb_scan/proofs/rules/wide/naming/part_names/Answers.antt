@@ -1,14 +1,13 @@
-use Rattle.std.proofs.Common.{◌≡◌, ◌∙◌, ◌+◌, ◌∷◌, [], ◌≤◌, ℕ, Bool, false, List, sym, ap, arith, length}
+use Rattle.std.proofs.Common.{◌≡◌, ◌∙◌, ◌+◌, ◌∷◌, [], ◌≤◌, ℕ, false, List, sym, ap, arith, length}
 use Rattle.std.proofs.lemmas.List.{drop_all, drop_more, take_rest}
 use Rattle.std.specs.Prelude.{◌==◌, drop, slice_index_or}
-use Rattle.cb_scan.specs.CodeTokens.{lone_part}
 use Rattle.cb_scan.specs.declared.lex.token.Role.TheVariants.{Word}
 use Rattle.cb_scan.specs.declared.lex.token.WordKind.TheVariants as kind
 use Rattle.cb_scan.specs.declared.rules.wide.part.Part.{Part}
 use Rattle.cb_scan.specs.declared.rules.wide.role.WideRole.TheVariants as wide
 use Rattle.cb_scan.specs.declared.rules.wide.token.WideToken.{WideToken}
 use Rattle.cb_scan.specs.rules.wide.Levels.{numbered}
-use Rattle.cb_scan.specs.steps.wide.Along.{items, part_from}
+use Rattle.cb_scan.specs.steps.wide.Along.{part_from}
 use Rattle.cb_scan.specs.steps.wide.Parts as parts
 use Rattle.cb_scan.specs.steps.wide.Parts.{next_part, part_start}
 use Rattle.cb_scan.specs.rules.Typedefs.{nesting_after}
