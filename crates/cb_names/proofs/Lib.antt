@@ -7,6 +7,8 @@ pub mod DeclaredLemmas
 pub mod HardLemmas
 pub mod LabelLemmas
 pub mod PairingLemmas
+pub mod RenamingLemmas
+pub mod SeenLemmas
 pub mod SignLemmas
 pub mod StatementLemmas
 pub mod ScopeLemmas

@@ -9,6 +9,7 @@ pub mod Labels
 pub mod Locals
 pub mod Meanings
 pub mod Pairs
+pub mod Renaming
 pub mod Scoped
 pub mod Scopes
 pub mod Shapes
