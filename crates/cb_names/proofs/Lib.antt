@@ -6,10 +6,12 @@ pub mod DeclaratorLemmas
 pub mod DeclaredLemmas
 pub mod HardLemmas
 pub mod LabelLemmas
+pub mod NestingLemmas
 pub mod PairingLemmas
 pub mod RenamingLemmas
 pub mod SeenLemmas
 pub mod SignLemmas
+pub mod StackLemmas
 pub mod StatementLemmas
 pub mod ScopeLemmas
 pub mod ShapeLemmas
