@@ -35,8 +35,11 @@ module _ (p : ℕ → Bool) where
   found_from a (suc n) e is =
       ⊎_elim
       (λ here. omega (arith, the a e (sym (ap (λ b. cond b (Some a) (find p (range_with_len (a + 1) n))) here) ∙ is)))
-      (λ later. omega (arith, found_from (a + 1) n e
-      (sym (ap (λ b. cond b (Some a) (find p (range_with_len (a + 1) n))) later) ∙ is)))
+      (λ later. omega (
+        arith,
+        found_from (a + 1) n e
+            (sym (ap (λ b. cond b (Some a) (find p (range_with_len (a + 1) n))) later) ∙ is),
+      ))
       (cases_Bool (p a))
 
   pub none_before : (a n e i : ℕ) → find p (range_with_len a n) ≡ Some e → a ≤ i → i < e → p i ≡ false
@@ -523,7 +526,7 @@ module _ (xs : List Item) (b : ℕ) where
                 arith,
                 less,
                 first_is (ap (λ c. cond c (blocked t i) (other i around)) block
-                ∙ ap (λ o. option_map_or (scope_of_for xs b) o (scope_of_bracket xs i)) o_is),
+                    ∙ ap (λ o. option_map_or (scope_of_for xs b) o (scope_of_bracket xs i)) o_is),
               )
           of_block block (Some f) o_is less =
               omega (
@@ -531,7 +534,7 @@ module _ (xs : List Item) (b : ℕ) where
                 less,
                 (top_is xs f i (begins_parts i f (goes_is i f t o_is).begins).1).less,
                 first_is (ap (λ c. cond c (blocked t i) (other i around)) block
-                ∙ ap (λ o. option_map_or (scope_of_for xs b) o (scope_of_bracket xs i)) o_is),
+                    ∙ ap (λ o. option_map_or (scope_of_for xs b) o (scope_of_bracket xs i)) o_is),
               )
 
           of_other : (has i (opened xs k) ≡ true → low ≤ (scope_in is_list xs b i around).first)
@@ -543,7 +546,7 @@ module _ (xs : List Item) (b : ℕ) where
                 less,
                 (of_is i f o_is).1,
                 first_is (ap (λ c. cond c (blocked t i) (other i around)) unblocked
-                ∙ ap (λ o. option_map_or (scope_of_for xs b) o (listed i around)) o_is),
+                    ∙ ap (λ o. option_map_or (scope_of_for xs b) o (listed i around)) o_is),
               )
           of_other outer unblocked None o_is less =
               ⊎_elim
@@ -551,15 +554,15 @@ module _ (xs : List Item) (b : ℕ) where
                 arith,
                 less,
                 first_is (ap (λ c. cond c (blocked t i) (other i around)) unblocked
-                ∙ ap (λ o. option_map_or (scope_of_for xs b) o (listed i around)) o_is
-                ∙ ap (λ c. cond c (scope_of_bracket xs i) (scope_in is_list xs b i around)) list),
+                    ∙ ap (λ o. option_map_or (scope_of_for xs b) o (listed i around)) o_is
+                    ∙ ap (λ c. cond c (scope_of_bracket xs i) (scope_in is_list xs b i around)) list),
               ))
               (λ isnt. omega (
                 arith,
                 outer i_held,
                 first_is (ap (λ c. cond c (blocked t i) (other i around)) unblocked
-                ∙ ap (λ o. option_map_or (scope_of_for xs b) o (listed i around)) o_is
-                ∙ ap (λ c. cond c (scope_of_bracket xs i) (scope_in is_list xs b i around)) isnt),
+                    ∙ ap (λ o. option_map_or (scope_of_for xs b) o (listed i around)) o_is
+                    ∙ ap (λ c. cond c (scope_of_bracket xs i) (scope_in is_list xs b i around)) isnt),
               ))
               (cases_Bool (is_list i))
 
@@ -589,8 +592,8 @@ module _ (xs : List Item) (b : ℕ) where
             (λ list. omega (
               arith,
               ap (λ (x : Scope). x.first) (ap (λ c. cond c (blocked t j) (other j (opened xs j))) list.0
-              ∙ ap (λ o. option_map_or (scope_of_for xs b) o (listed j (opened xs j))) list.1
-              ∙ ap (λ c. cond c (scope_of_bracket xs j) (scope_in is_list xs b j (opened xs j))) list.2),
+                  ∙ ap (λ o. option_map_or (scope_of_for xs b) o (listed j (opened xs j))) list.1
+                  ∙ ap (λ c. cond c (scope_of_bracket xs j) (scope_in is_list xs b j (opened xs j))) list.2),
             ))
             r.kind
           where
@@ -600,14 +603,14 @@ module _ (xs : List Item) (b : ℕ) where
                 omega (
                   arith,
                   ap (λ (x : Scope). x.first) (ap (λ c. cond c (blocked t j) (other j (opened xs j))) block
-                  ∙ ap (λ o. option_map_or (scope_of_for xs b) o (scope_of_bracket xs j)) o_is),
+                      ∙ ap (λ o. option_map_or (scope_of_for xs b) o (scope_of_bracket xs j)) o_is),
                 )
             of_block block (Some f) o_is =
                 omega (
                   arith,
                   (top_is xs f j (begins_parts j f (goes_is j f t o_is).begins).1).less,
                   ap (λ (x : Scope). x.first) (ap (λ c. cond c (blocked t j) (other j (opened xs j))) block
-                  ∙ ap (λ o. option_map_or (scope_of_for xs b) o (scope_of_bracket xs j)) o_is),
+                      ∙ ap (λ o. option_map_or (scope_of_for xs b) o (scope_of_bracket xs j)) o_is),
                 )
 
     nested_for : (d k : ℕ) (s : Scope) → d ≤ k → k < length xs → k ≤ s.last → InFor d s
@@ -661,7 +664,7 @@ module _ (xs : List Item) (b : ℕ) where
               arith,
               l.le,
               ap (λ (x : Scope). x.first) (ap (λ c. cond c (blocked t j) (other j (opened xs j))) r.block
-              ∙ ap (λ o. option_map_or (scope_of_for xs b) o (scope_of_bracket xs j)) l.is),
+                  ∙ ap (λ o. option_map_or (scope_of_for xs b) o (scope_of_bracket xs j)) l.is),
             )
 
     -- the scope around a token that is seen at another one behind it begins no further in than the

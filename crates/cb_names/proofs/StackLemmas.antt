@@ -231,8 +231,11 @@ module _ (xs : List Item) where
           let closes = partner_closes j p c.1 o_is in
           ⊎_elim
           (λ le. omega (arith, le.1, same))
-          (λ less. absurd (omega (arith, closes_open p j j closes
-          (was_open k j (suc p) (held j (has_first j js)) (omega (arith, closed_less xs p j closes)) (omega (arith, less.1))))))
+          (λ less. absurd (omega (
+            arith,
+            closes_open p j j closes
+                (was_open k j (suc p) (held j (has_first j js)) (omega (arith, closed_less xs p j closes)) (omega (arith, less.1))),
+          )))
           (leb_tells k p)
 
   pub not_behind : (k j : ℕ) → k < length xs → has j (opened xs k) ≡ true → k ≤ or_last xs (end_of xs (j ∷ opened xs j))
