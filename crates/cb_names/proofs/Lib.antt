@@ -6,8 +6,10 @@ pub mod DeclaratorLemmas
 pub mod DeclaredLemmas
 pub mod HardLemmas
 pub mod LabelLemmas
+pub mod ListLemmas
 pub mod NestingLemmas
 pub mod PairingLemmas
+pub mod RenamingLaws
 pub mod RenamingLemmas
 pub mod SeenLemmas
 pub mod SignLemmas

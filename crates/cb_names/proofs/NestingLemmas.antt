@@ -1,10 +1,10 @@
 -- Scopes nest, where each `for` stands in a block: the scope of what is declared before a token, and
 -- seen there, begins no further in than the innermost scope around that token.
-use Rattle.std.proofs.Common.{◌≡◌, ◌≢◌, ◌∙◌, ◌+◌, ◌-◌, ◌<◌, ◌≤◌, ◌⊎◌, ◌∷◌, [], ℕ, zero, suc, Bool, true, false, List}
+use Rattle.std.proofs.Common.{◌≡◌, ◌∙◌, ◌+◌, ◌-◌, ◌<◌, ◌≤◌, ◌⊎◌, ◌∷◌, [], ℕ, zero, suc, Bool, true, false, List}
 use Rattle.std.proofs.Common.{Option, Some, None, ⊎_elim, inl, inr, refl, sym, ap, subst, arith, length}
 use Rattle.std.proofs.lemmas.Bool.{and_from, and_parts, cases_Bool, eqb-true, false≢true}
 use Rattle.std.proofs.lemmas.Bool.Decides.{eqb_tells, leb_tells}
-use Rattle.std.specs.Prelude.{◌==◌, ◌||◌, ◌&&◌, cond, find, not, slice_get, unwrap_or}
+use Rattle.std.specs.Prelude.{◌==◌, ◌||◌, ◌&&◌, cond, find, not, slice_get}
 use Rattle.std.specs.List.{range_with_len}
 use Rattle.std.specs.Option.{option_map_or, option_or}
 use Rattle.cb_names.specs.declared.scopes.Scope.{Scope}
@@ -13,11 +13,11 @@ use Rattle.cb_names.specs.Braces.{is_block, kind_at, kind_in}
 use Rattle.cb_names.specs.declared.braces.Brace.TheVariants.{Other}
 use Rattle.cb_names.specs.Pairs.{at, beyond, closed_at, innermost, is_at, is_index, lowest_brace, nearest, nearest_brace}
 use Rattle.cb_names.specs.Pairs.{opened, opens, partner, sign}
-use Rattle.cb_names.specs.Scopes.{begins_for, begins_on, end_around, end_of, ends_for, ends_on, first_end, for_before}
-use Rattle.cb_names.specs.Scopes.{for_end, for_of, is_else, level_of, or_last, scope_at, scope_in, scope_of_bracket, scope_of_for, whole}
+use Rattle.cb_names.specs.Scopes.{begins_for, begins_on, end_of, ends_for, ends_on, first_end, for_before}
+use Rattle.cb_names.specs.Scopes.{for_of, is_else, level_of, or_last, scope_at, scope_in, scope_of_bracket, scope_of_for, whole}
 use Rattle.cb_names.specs.Statements.{in_block}
 use Rattle.cb_names.proofs.BracketLemmas.{Chain, chain_has, chain_of, closed_is, has, self, top_is}
-use Rattle.cb_names.proofs.StackLemmas.{closes_open, has_cases, has_first, has_more, has_none, none_some, not_behind}
+use Rattle.cb_names.proofs.StackLemmas.{closes_open, has_cases, has_first, has_none, none_some, not_behind}
 use Rattle.cb_names.proofs.StackLemmas.{open_less, open_opens, open_until, the, under, was_open, within}
 
 -- ---- the first index of a range that passes a test

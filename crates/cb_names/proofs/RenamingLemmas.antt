@@ -1,7 +1,7 @@
 -- Where the uses of a local have a new word, that no ordinary name has, all names are bound as before.
-use Rattle.std.proofs.Common.{◌≡◌, ◌≢◌, ◌∙◌, ◌<◌, ◌≤◌, ◌⊎◌, ℕ, suc, Bool, true, false, List, Option, Some, None}
-use Rattle.std.proofs.Common.{⊎_elim, inl, inr, refl, sym, ap, subst, arith}
-use Rattle.std.proofs.lemmas.Bool.{and_from, and_parts, cases_Bool, false≢true}
+use Rattle.std.proofs.Common.{◌≡◌, ◌∙◌, ◌<◌, ℕ, suc, Bool, true, false, List, Option, Some, None}
+use Rattle.std.proofs.Common.{⊎_elim, refl, sym, ap, arith}
+use Rattle.std.proofs.lemmas.Bool.{and_from, and_parts, cases_Bool, eqb-true, false≢true}
 use Rattle.std.proofs.lemmas.Slice.Eq.{bytes_eq-Decides}
 use Rattle.std.specs.Prelude.{◌&&◌, ◌==◌, cond}
 use Rattle.std.specs.Option.{option_map_or}
@@ -9,6 +9,7 @@ use Rattle.std.specs.Str.{bytes_eq}
 use Rattle.cb_names.specs.Bindings.{binding, is_bound_in, seen_before}
 use Rattle.cb_names.specs.Renaming.{bound_by, declares_word, has, is_use_by, renamed}
 use Rattle.cb_names.specs.declared.scopes.Scope.{Scope}
+use Rattle.cb_names.proofs.BindingLemmas.{seen_same}
 use Rattle.cb_names.proofs.SeenLemmas.{Seen, seen_is, still_seen}
 
 -- words are the same, or not
@@ -143,3 +144,156 @@ module _ (l : ℕ) (ordinary declares : ℕ → Bool) (word : ℕ → List ℕ) 
       (is_word (after k) new (new_is k e)) ∙ sym e)
       (λ n. ap (λ w. ordinary k && bytes_eq w new) (old_is k n) ∙ fresh k less ∙ sym n)
       (cases_Bool (edited k))
+
+  -- declarations of one name in one scope are edited alike
+  one_edited : (e d : ℕ) → e < l → d < l → declared (word e) e ≡ true → declared (word d) d ≡ true → word e ≡ word d
+      → (scope e).first ≡ (scope d).first → edited e ≡ true → edited d ≡ true
+  one_edited e d e_less d_less e_is d_is same one is =
+      let w : word e ≡ name = had e is in
+      let v : word d ≡ name = sym same ∙ w in
+      let e_named : declared name e ≡ true = ap (λ n. declared n e) (sym w) ∙ e_is in
+      let d_named : declared name d ≡ true = ap (λ n. declared n d) (sym v) ∙ d_is in
+      and_from _ _ (and_parts (has word ordinary name d) (declares d) d_named).0
+      (bound_is d d_less d_named ∙ sym (ap (λ n. n == first) one) ∙ sym (bound_is e e_less e_named) ∙ in_scope e is)
+
+  -- what an index is bound to, and in which scope
+  record Bound (j at : ℕ) : Type 0 where
+    to : ℕ
+    is : bound_by word ordinary declares scope j ≡ Some to
+    begins : (scope to).first ≡ at
+
+  bound_at : (j at : ℕ) → is_bound_in (declared (word j)) scope at j ≡ true → Bound j at
+  bound_at j at in_it = by (bound_by word ordinary declares scope j) refl in_it
+    where
+      by : (o : Option ℕ) → bound_by word ordinary declares scope j ≡ o
+          → option_map_or (λ e. (scope e).first == at) o false ≡ true → Bound j at
+      by None is none = absurd (false≢true none)
+      by (Some e) is begins = record { to = e; is = is; begins = eqb-true (scope e).first at begins }
+
+  record Declaring (k d : ℕ) : Type 0 where
+    less : d < l
+    same : word d ≡ word k
+    is : declared (word d) d ≡ true
+
+  declaring : (k d : ℕ) → k < l → bound_by word ordinary declares scope k ≡ Some d → Declaring k d
+  declaring k d less is = record {
+    less = omega (arith, s.less, less);
+    same = same;
+    is = ap (λ n. declared n d) same ∙ is_declared;
+  }
+    where
+      s : Seen scope (declared (word k)) k (suc k) d
+      s = seen_is scope (declared (word k)) k (suc k) d is
+
+      is_declared : declared (word k) d ≡ true
+      is_declared = (and_parts (declared (word k) d) _ s.is).0
+
+      same : word d ≡ word k
+      same = word_is (word d) (word k) (and_parts (ordinary d) (bytes_eq (word d) (word k))
+          (and_parts (has word ordinary (word k) d) (declares d) is_declared).0).1
+
+  -- the uses of a local stay
+  pub uses_same : (d k j : ℕ) → k < l → j < l → ordinary k ≡ true → bound_by word ordinary declares scope k ≡ Some d
+      → is_use_by after ordinary declares scope (after k) (scope d).first j
+      ≡ is_use_by word ordinary declares scope (word k) (scope d).first j
+  uses_same d k j k_less j_less o_k is =
+      either _ _ (λ used. back used) (λ used. forth used)
+    where
+      at : ℕ
+      at = (scope d).first
+
+      moved : ordinary j ≡ true → after j ≡ after k → word j ≡ word k
+          → is_bound_in (declares_word after ordinary declares (after k)) scope at j ≡ is_bound_in (declared (word k)) scope at j
+      moved o_j a w =
+          ap (λ n. is_bound_in (declares_word after ordinary declares n) scope at j) (sym a)
+          ∙ ap (λ o. option_map_or (λ e. (scope e).first == at) o false) (bound_same j j_less o_j)
+          ∙ ap (λ n. is_bound_in (declared n) scope at j) w
+
+      back : is_use_by after ordinary declares scope (after k) at j ≡ true
+          → is_use_by word ordinary declares scope (word k) at j ≡ true
+      back used =
+          let parts = and_parts (has after ordinary (after k) j) _ used in
+          let of_name = and_parts (ordinary j) (bytes_eq (after j) (after k)) parts.0 in
+          let a : after j ≡ after k = word_is (after j) (after k) of_name.1 in
+          let w : word j ≡ word k = were_same j k j_less k_less of_name.0 o_k a in
+          and_from _ _ (and_from (ordinary j) (bytes_eq (word j) (word k)) of_name.0 (is_word (word j) (word k) w))
+          (sym (moved of_name.0 a w) ∙ parts.1)
+
+      forth : is_use_by word ordinary declares scope (word k) at j ≡ true
+          → is_use_by after ordinary declares scope (after k) at j ≡ true
+      forth used =
+          let parts = and_parts (has word ordinary (word k) j) _ used in
+          let of_name = and_parts (ordinary j) (bytes_eq (word j) (word k)) parts.0 in
+          let w : word j ≡ word k = word_is (word j) (word k) of_name.1 in
+          let b = bound_at j at (ap (λ n. is_bound_in (declared n) scope at j) w ∙ parts.1) in
+          let e = declaring j b.to j_less b.is in
+          let f = declaring k d k_less is in
+          let same : word b.to ≡ word d = e.same ∙ w ∙ sym f.same in
+          let alike : edited j ≡ edited k = sym (edited_alike j b.to j_less of_name.0 b.is)
+          ∙ either (edited b.to) (edited d)
+          (one_edited b.to d e.less f.less e.is f.is same b.begins)
+          (one_edited d b.to f.less e.less f.is e.is (sym same) (sym b.begins))
+          ∙ edited_alike k d k_less o_k is in
+          let a : after j ≡ after k = stay_same j k alike w in
+          and_from _ _ (and_from (ordinary j) (bytes_eq (after j) (after k)) of_name.0 (is_word (after j) (after k) a))
+          (moved of_name.0 a w ∙ parts.1)
+
+-- where ordinary names keep their words, they are bound as before
+pub kept_bound : (l : ℕ) (ordinary declares : ℕ → Bool) (word after : ℕ → List ℕ) (scope : ℕ → Scope)
+    → ((k : ℕ) → k < l → ordinary k ≡ true → after k ≡ word k)
+    → (k : ℕ) → k < l → ordinary k ≡ true
+    → bound_by after ordinary declares scope k ≡ bound_by word ordinary declares scope k
+kept_bound l ordinary declares word after scope kept k less o_k =
+    seen_same (declares_word after ordinary declares (after k)) (declares_word word ordinary declares (word k)) scope scope
+    (suc k) (λ i under. ap (λ c. c && declares i) (same i (omega (arith, under, less)))) (λ i under. refl) k (suc k) (omega arith)
+  where
+    same : (i : ℕ) → i < l → has after ordinary (after k) i ≡ has word ordinary (word k) i
+    same i i_less =
+        ⊎_elim
+        (λ o_i. (λ j. ordinary i && bytes_eq (kept i i_less o_i j) (kept k less o_k j)))
+        (λ n. ap (λ c. c && bytes_eq (after i) (after k)) n ∙ sym (ap (λ c. c && bytes_eq (word i) (word k)) n))
+        (cases_Bool (ordinary i))
+
+-- a word that is new in the place of another one, at all tokens of a kind, tells them apart as before
+pub told_same : (l : ℕ) (named : ℕ → Bool) (word : ℕ → List ℕ) (name new : List ℕ)
+    → ((k : ℕ) → k < l → (named k && bytes_eq (word k) new) ≡ false)
+    → (j k : ℕ) → j < l → k < l → named j ≡ true → named k ≡ true
+    → bytes_eq (renamed word (λ i. named i && bytes_eq (word i) name) new j)
+    (renamed word (λ i. named i && bytes_eq (word i) name) new k)
+    ≡ bytes_eq (word j) (word k)
+told_same l named word name new fresh j k j_less k_less n_j n_k =
+    either _ _ (λ is. is_word (word j) (word k) (back (word_is (after j) (after k) is)))
+    (λ is. is_word (after j) (after k) (forth (word_is (word j) (word k) is)))
+  where
+    edited : ℕ → Bool
+    edited i = named i && bytes_eq (word i) name
+
+    after : ℕ → List ℕ
+    after = renamed word edited new
+
+    unlike : (i : ℕ) → i < l → named i ≡ true → word i ≡ new → ⊥
+    unlike i less n_i same =
+        false≢true (sym (fresh i less) ∙ and_from (named i) (bytes_eq (word i) new) n_i (is_word (word i) new same))
+
+    had : (i : ℕ) → edited i ≡ true → word i ≡ name
+    had i is = word_is (word i) name (and_parts (named i) (bytes_eq (word i) name) is).1
+
+    back : after j ≡ after k → word j ≡ word k
+    back same =
+        ⊎_elim
+        (λ e_j. ⊎_elim
+        (λ e_k. had j e_j ∙ sym (had k e_k))
+        (λ o_k. absurd (unlike k k_less n_k
+        (sym (ap (λ c. cond c new (word k)) o_k) ∙ sym same ∙ ap (λ c. cond c new (word j)) e_j)))
+        (cases_Bool (edited k)))
+        (λ o_j. ⊎_elim
+        (λ e_k. absurd (unlike j j_less n_j
+        (sym (ap (λ c. cond c new (word j)) o_j) ∙ same ∙ ap (λ c. cond c new (word k)) e_k)))
+        (λ o_k. sym (ap (λ c. cond c new (word j)) o_j) ∙ same ∙ ap (λ c. cond c new (word k)) o_k)
+        (cases_Bool (edited k)))
+        (cases_Bool (edited j))
+
+    forth : word j ≡ word k → after j ≡ after k
+    forth same =
+        let alike : edited j ≡ edited k = (λ i. (n_j ∙ sym n_k) i && bytes_eq (same i) name) in
+        (λ i. cond (alike i) new (same i))

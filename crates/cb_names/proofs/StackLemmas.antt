@@ -1,15 +1,15 @@
 -- How long a bracket stays open: up to where it ends.
-use Rattle.std.proofs.Common.{◌≡◌, ◌≢◌, ◌∙◌, ◌+◌, ◌-◌, ◌<◌, ◌≤◌, ◌⊎◌, ◌∷◌, [], ℕ, zero, suc, Bool, true, false, List}
-use Rattle.std.proofs.Common.{Option, Some, None, ⊎_elim, inl, inr, refl, sym, ap, subst, arith, length}
+use Rattle.std.proofs.Common.{◌≡◌, ◌∙◌, ◌+◌, ◌-◌, ◌<◌, ◌≤◌, ◌⊎◌, ◌∷◌, [], ℕ, zero, suc, Bool, true, false, List}
+use Rattle.std.proofs.Common.{Option, Some, None, ⊎_elim, inl, inr, refl, sym, ap, arith, length}
 use Rattle.std.proofs.lemmas.Bool.{and_parts, cases_Bool, eqb-true, false≢true, or_right}
 use Rattle.std.proofs.lemmas.Bool.Decides.{eqb_tells, leb_tells}
-use Rattle.std.specs.Prelude.{◌==◌, ◌||◌, ◌&&◌, cond, slice_get, unwrap_or}
+use Rattle.std.specs.Prelude.{◌==◌, ◌||◌, ◌&&◌, cond}
 use Rattle.std.specs.Option.{option_map_or, option_or}
 use Rattle.cb_names.specs.declared.word.Item.{Item}
-use Rattle.cb_names.specs.Pairs.{at, beyond, closed_at, closer_among, ends_all, innermost, is_at, is_index, lowest_brace}
-use Rattle.cb_names.specs.Pairs.{nearest, nearest_brace, open_after, opened, opens, partner, sign}
+use Rattle.cb_names.specs.Pairs.{at, beyond, closed_at, closer_among, ends_all, is_at, is_index, lowest_brace}
+use Rattle.cb_names.specs.Pairs.{nearest, nearest_brace, opened, opens, partner, sign}
 use Rattle.cb_names.specs.Scopes.{end_of, or_last}
-use Rattle.cb_names.proofs.BracketLemmas.{Chain, all_opens, chain_has, chain_of, closed_is, has, inside, inside_from}
+use Rattle.cb_names.proofs.BracketLemmas.{Chain, chain_has, chain_of, closed_is, has, inside, inside_from}
 use Rattle.cb_names.proofs.BracketLemmas.{lowest_closed, not_all, self}
 use Rattle.cb_names.proofs.PairingLemmas.{closed_less, opens_closes_none}
 

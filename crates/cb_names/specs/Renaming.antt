@@ -1,9 +1,20 @@
--- What the names of a function are bound to where its tokens have other words. Which tokens are
--- ordinary names, which declare, and their scopes stay as they are.
-use Rattle.std.specs.Prelude.{ℕ, Bool, ◌&&◌, List, if◌then◌else◌, Option}
+-- What names mean where tokens of a function have other words. Which tokens are ordinary names, which
+-- declare, which name labels, and their scopes stay as they are.
+use Rattle.std.specs.Prelude.{◌≡◌, ◌<◌, ℕ, Bool, true, false, ◌&&◌, ◌==◌, List, length, if◌then◌else◌}
+use Rattle.std.specs.Prelude.{Option, Some}
 use Rattle.std.specs.Str.{bytes_eq}
-use Rattle.cb_names.specs.Bindings.{binding, is_bound_in}
+use Rattle.cb_scan.specs.lex.Tokens.{bytes_of}
+use Rattle.cb_names.specs.Bindings.{binding, declares_name, is_bound_in, is_named, scope_of}
+use Rattle.cb_names.specs.Labels.{is_same, names_label, span}
+use Rattle.cb_names.specs.Pairs.{at, sign}
+use Rattle.cb_names.specs.Scoped.{declares}
+use Rattle.cb_names.specs.Scopes.{begins_for}
+use Rattle.cb_names.specs.Spaces.{is_ordinary}
+use Rattle.cb_names.specs.Statements.{in_block}
 use Rattle.cb_names.specs.declared.scopes.Scope.{Scope}
+use Rattle.cb_names.specs.declared.word.Item.{Item}
+
+-- ---- words
 
 -- the words where some tokens have a new one
 abbrev pub renamed : (ℕ → List ℕ) → (edited : ℕ → Bool) → (new : List ℕ) → ℕ → List ℕ
@@ -27,3 +38,78 @@ abbrev pub is_use_by : (ℕ → List ℕ) → (ordinary declares : ℕ → Bool)
 is_use_by word ordinary declares scope name first k =
     has word ordinary name k
     && is_bound_in (declares_word word ordinary declares name) scope first k
+
+-- ---- in a function, whose name has index m, and whose body begins at index b
+
+-- the words of its tokens
+abbrev pub own_words : List ℕ → List Item → ℕ → List ℕ
+own_words text xs k = bytes_of text (span (at xs k))
+
+-- the declaration to which index k is bound, where these are the words
+abbrev pub bound_in : (ℕ → List ℕ) → List Item → (m b : ℕ) → (k : ℕ) → Option ℕ
+bound_in word xs m b k = bound_by word (is_ordinary xs b) (declares xs m b) (scope_of xs m b) k
+
+-- index j is a use of the name that index k has, in the scope of what index d declares
+abbrev pub is_use_in : (ℕ → List ℕ) → List Item → (m b : ℕ) → (d k j : ℕ) → Bool
+is_use_in word xs m b d k j =
+    is_use_by word (is_ordinary xs b) (declares xs m b) (scope_of xs m b) (word k)
+    (scope_of xs m b d).first j
+
+-- index k is a use of the local that index d declares
+abbrev pub is_use_of : List ℕ → List Item → (m b : ℕ) → (d k : ℕ) → Bool
+is_use_of text xs m b d k =
+    let name = own_words text xs d in
+    is_named text xs b name k
+    && is_bound_in (declares_name text xs m b name) (scope_of xs m b) (scope_of xs m b d).first k
+
+-- the words where the uses of this local have a new one
+abbrev pub with_local : List ℕ → List Item → (m b : ℕ) → (d : ℕ) → (new : List ℕ) → ℕ → List ℕ
+with_local text xs m b d new = renamed (own_words text xs) (is_use_of text xs m b d) new
+
+-- index j names the label that index k names
+abbrev pub is_label_use : List ℕ → List Item → (b : ℕ) → (k j : ℕ) → Bool
+is_label_use text xs b k j = names_label xs b j && is_same text xs j k
+
+-- the words where the tokens that name this label have a new one
+abbrev pub with_label : List ℕ → List Item → (b : ℕ) → (k : ℕ) → (new : List ℕ) → ℕ → List ℕ
+with_label text xs b k new = renamed (own_words text xs) (is_label_use text xs b k) new
+
+-- no ordinary name of the function has the word; no token that names a label has it
+abbrev pub IsNewToNames : List ℕ → List Item → (b : ℕ) → List ℕ → Type 0
+IsNewToNames text xs b new = (k : ℕ) → k < length xs → is_named text xs b new k ≡ false
+
+abbrev pub IsNewToLabels : List ℕ → List Item → (b : ℕ) → List ℕ → Type 0
+IsNewToLabels text xs b new =
+    (k : ℕ) → k < length xs → (names_label xs b k && bytes_eq (own_words text xs k) new) ≡ false
+
+-- each `for (` of the function is a word directly in a block
+abbrev pub ForsAreInBlocks : List Item → (b : ℕ) → Type 0
+ForsAreInBlocks xs b =
+    (k : ℕ) → begins_for xs k ≡ true → (sign xs k == 0 && in_block xs b k) ≡ true
+
+-- each declaration of a name is bound to itself
+abbrev pub AreBoundToThemselves : List ℕ → List Item → (m b : ℕ) → (name : List ℕ) → Type 0
+AreBoundToThemselves text xs m b name =
+    (k : ℕ) → k < length xs → declares_name text xs m b name k ≡ true
+    → binding (declares_name text xs m b name) (scope_of xs m b) k ≡ Some k
+
+-- ---- what stays where words are others
+
+-- each ordinary name of the function is bound to the declaration of before
+abbrev pub BindsAsBefore : List ℕ → List Item → (m b : ℕ) → (word : ℕ → List ℕ) → Type 0
+BindsAsBefore text xs m b word =
+    (k : ℕ) → k < length xs → is_ordinary xs b k ≡ true
+    → bound_in word xs m b k ≡ bound_in (own_words text xs) xs m b k
+
+-- the local that an ordinary name means has the uses of before
+abbrev pub UsesAsBefore : List ℕ → List Item → (m b : ℕ) → (word : ℕ → List ℕ) → Type 0
+UsesAsBefore text xs m b word =
+    (d k j : ℕ) → k < length xs → j < length xs → is_ordinary xs b k ≡ true
+    → bound_in (own_words text xs) xs m b k ≡ Some d
+    → is_use_in word xs m b d k j ≡ is_use_in (own_words text xs) xs m b d k j
+
+-- two tokens that name labels name the same one if they did before, and else not
+abbrev pub LabelsAsBefore : List ℕ → List Item → (b : ℕ) → (word : ℕ → List ℕ) → Type 0
+LabelsAsBefore text xs b word =
+    (j k : ℕ) → j < length xs → k < length xs → names_label xs b j ≡ true
+    → names_label xs b k ≡ true → bytes_eq (word j) (word k) ≡ is_same text xs j k

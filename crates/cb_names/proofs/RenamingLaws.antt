@@ -1,0 +1,86 @@
+-- The laws of renaming at the definitions of a function.
+use Rattle.std.proofs.Common.{◌≡◌, ◌∙◌, ◌<◌, ℕ, Bool, true, false, List, ⊎_elim, refl, sym, ap, length}
+use Rattle.std.proofs.lemmas.Bool.{and_parts, cases_Bool, false≢true}
+use Rattle.std.specs.Prelude.{◌&&◌, ◌||◌, cond, not}
+use Rattle.std.specs.Str.{bytes_eq}
+use Rattle.cb_names.specs.Bindings.{declares_name, is_named, scope_of}
+use Rattle.cb_names.specs.Braces.{is_name_at}
+use Rattle.cb_names.specs.Labels.{names_label}
+use Rattle.cb_names.specs.Renaming.{AreBoundToThemselves, BindsAsBefore, ForsAreInBlocks, IsNewToLabels, IsNewToNames}
+use Rattle.cb_names.specs.Renaming.{LabelsAsBefore, UsesAsBefore, has, is_label_use, is_use_of, own_words, with_label, with_local}
+use Rattle.cb_names.specs.Scoped.{declares, is_list}
+use Rattle.cb_names.specs.Spaces.{follows_accessor, is_ordinary, is_tag}
+use Rattle.cb_names.specs.declared.word.Item.{Item}
+use Rattle.cb_names.proofs.ListLemmas.{lists_pair}
+use Rattle.cb_names.proofs.NestingLemmas.{in_own, nested}
+use Rattle.cb_names.proofs.RenamingLemmas.{bound_same, kept_bound, new_exactly, told_same, uses_same}
+use Rattle.cb_names.proofs.SeenLemmas.{bound_to_itself}
+
+-- an ordinary name names no label
+apart : (xs : List Item) (b k : ℕ) → is_ordinary xs b k ≡ true → names_label xs b k ≡ true → ⊥
+apart xs b k ordinary label =
+    false≢true (sym (ap (λ c. is_name_at xs k && not (follows_accessor xs k || is_tag xs k || c)) label ∙ none) ∙ ordinary)
+  where
+    none : (is_name_at xs k && not (follows_accessor xs k || is_tag xs k || true)) ≡ false
+    none = by (is_name_at xs k) (follows_accessor xs k || is_tag xs k)
+      where
+        by : (n o : Bool) → (n && not (o || true)) ≡ false
+        by true true = refl
+        by true false = refl
+        by false true = refl
+        by false false = refl
+
+module _ (text : List ℕ) (xs : List Item) (m b : ℕ) where
+  pub bound_to_themselves : (name : List ℕ) → ForsAreInBlocks xs b → AreBoundToThemselves text xs m b name
+  bound_to_themselves name fors k less is =
+      bound_to_itself (scope_of xs m b) (declares_name text xs m b name) k is
+      (in_own xs b (is_list xs m b) fors (lists_pair xs m b) k less)
+      (λ d le declared seen. nested xs b (is_list xs m b) fors (lists_pair xs m b) d k le less seen)
+
+  module _ (d : ℕ) (new : List ℕ) (own : AreBoundToThemselves text xs m b (own_words text xs d)) (fresh : IsNewToNames text xs b new) where
+    pub local_binds : BindsAsBefore text xs m b (with_local text xs m b d new)
+    local_binds k less ordinary =
+        bound_same (length xs) (is_ordinary xs b) (declares xs m b) (own_words text xs) (scope_of xs m b)
+        (own_words text xs d) new (scope_of xs m b d).first fresh own k less ordinary
+
+    pub local_uses : UsesAsBefore text xs m b (with_local text xs m b d new)
+    local_uses e k j k_less j_less ordinary is =
+        uses_same (length xs) (is_ordinary xs b) (declares xs m b) (own_words text xs) (scope_of xs m b)
+        (own_words text xs d) new (scope_of xs m b d).first fresh own e k j k_less j_less ordinary is
+
+    pub local_exactly : (k : ℕ) → k < length xs
+        → has (with_local text xs m b d new) (is_ordinary xs b) new k ≡ is_use_of text xs m b d k
+    local_exactly k less =
+        new_exactly (length xs) (is_ordinary xs b) (declares xs m b) (own_words text xs) (scope_of xs m b)
+        (own_words text xs d) new (scope_of xs m b d).first fresh own k less
+
+  -- a local leaves labels as they are
+  pub local_labels : (d : ℕ) (new : List ℕ) → LabelsAsBefore text xs b (with_local text xs m b d new)
+  local_labels d new j k j_less k_less j_label k_label = (λ i. bytes_eq (kept j j_label i) (kept k k_label i))
+    where
+      kept : (i : ℕ) → names_label xs b i ≡ true → with_local text xs m b d new i ≡ own_words text xs i
+      kept i label =
+          ⊎_elim
+          (λ is. absurd (apart xs b i
+          (and_parts (is_ordinary xs b i) (bytes_eq (own_words text xs i) (own_words text xs d))
+          (and_parts (is_named text xs b (own_words text xs d) i) _ is).0).0 label))
+          (λ isnt. ap (λ c. cond c new (own_words text xs i)) isnt)
+          (cases_Bool (is_use_of text xs m b d i))
+
+  -- and a label leaves ordinary names as they are
+  pub label_binds : (k : ℕ) (new : List ℕ) → BindsAsBefore text xs m b (with_label text xs b k new)
+  label_binds l new k less ordinary =
+      kept_bound (length xs) (is_ordinary xs b) (declares xs m b) (own_words text xs) (with_label text xs b l new) (scope_of xs m b)
+      (λ i i_less i_ordinary. kept i i_ordinary) k less ordinary
+    where
+      kept : (i : ℕ) → is_ordinary xs b i ≡ true → with_label text xs b l new i ≡ own_words text xs i
+      kept i is =
+          ⊎_elim
+          (λ label. absurd (apart xs b i is (and_parts (names_label xs b i) _ label).0))
+          (λ isnt. ap (λ c. cond c new (own_words text xs i)) isnt)
+          (cases_Bool (is_label_use text xs b l i))
+
+pub labels_same : (text : List ℕ) (xs : List Item) (b k : ℕ) (new : List ℕ) → IsNewToLabels text xs b new
+    → LabelsAsBefore text xs b (with_label text xs b k new)
+labels_same text xs b k new fresh i j i_less j_less i_label j_label =
+    told_same (length xs) (names_label xs b) (own_words text xs) (own_words text xs k) new fresh i j i_less j_less i_label j_label
