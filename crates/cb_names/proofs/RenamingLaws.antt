@@ -1,19 +1,25 @@
 -- The laws of renaming at the definitions of a function.
-use Rattle.std.proofs.Common.{◌≡◌, ◌∙◌, ◌<◌, ℕ, Bool, true, false, List, ⊎_elim, refl, sym, ap, length}
+use Rattle.std.proofs.Common.{◌≡◌, ◌∙◌, ◌<◌, ◌∷◌, [], ℕ, Bool, true, false, List, Option, Some, None}
+use Rattle.std.proofs.Common.{⊎_elim, refl, sym, ap, filter, length, map}
 use Rattle.std.proofs.lemmas.Bool.{and_parts, cases_Bool, false≢true}
-use Rattle.std.specs.Prelude.{◌&&◌, ◌||◌, cond, not}
+use Rattle.std.specs.Prelude.{◌&&◌, ◌==◌, ◌||◌, cond, not, option_map}
+use Rattle.std.specs.List.{range_with_len}
 use Rattle.std.specs.Str.{bytes_eq}
-use Rattle.cb_names.specs.Bindings.{declares_name, is_named, scope_of}
+use Rattle.cb_names.specs.Bindings.{declares_name, is_bound_in, is_named, scope_of, variable_at, variable_of}
 use Rattle.cb_names.specs.Braces.{is_name_at}
-use Rattle.cb_names.specs.Labels.{names_label}
+use Rattle.cb_names.specs.Labels.{label_of, label_use, names_label}
+use Rattle.cb_names.specs.Locals.{LocalName}
 use Rattle.cb_names.specs.Renaming.{AreBoundToThemselves, BindsAsBefore, ForsAreInBlocks, IsNewToLabels, IsNewToNames}
-use Rattle.cb_names.specs.Renaming.{LabelsAsBefore, UsesAsBefore, has, is_label_use, is_use_of, own_words, with_label, with_local}
+use Rattle.cb_names.specs.Renaming.{LabelsAsBefore, UsesAsBefore, bound_in, has, is_label_use, is_use_of, listed}
+use Rattle.cb_names.specs.Renaming.{own_words, spans_where, with_label, with_local}
 use Rattle.cb_names.specs.Scoped.{declares, is_list}
 use Rattle.cb_names.specs.Spaces.{follows_accessor, is_ordinary, is_tag}
+use Rattle.cb_names.specs.Statements.{is_label}
+use Rattle.cb_names.specs.declared.local.LocalUse.{LocalUse}
 use Rattle.cb_names.specs.declared.word.Item.{Item}
 use Rattle.cb_names.proofs.ListLemmas.{lists_pair}
 use Rattle.cb_names.proofs.NestingLemmas.{in_own, nested}
-use Rattle.cb_names.proofs.RenamingLemmas.{bound_same, kept_bound, new_exactly, told_same, uses_same}
+use Rattle.cb_names.proofs.RenamingLemmas.{bound_same, bound_to, kept_bound, new_exactly, told_same, uses_same}
 use Rattle.cb_names.proofs.SeenLemmas.{bound_to_itself}
 
 -- an ordinary name names no label
@@ -84,3 +90,30 @@ pub labels_same : (text : List ℕ) (xs : List Item) (b k : ℕ) (new : List ℕ
     → LabelsAsBefore text xs b (with_label text xs b k new)
 labels_same text xs b k new fresh i j i_less j_less i_label j_label =
     told_same (length xs) (names_label xs b) (own_words text xs) (own_words text xs k) new fresh i j i_less j_less i_label j_label
+
+-- ---- what is answered
+map_twice : {A B C : Type 0} (f : A → B) (g : B → C) (l : List A) → map g (map f l) ≡ map (λ x. g (f x)) l
+map_twice f g [] = refl
+map_twice f g (x ∷ l) = ap (λ r. g (f x) ∷ r) (map_twice f g l)
+
+pub local_listed : (text : List ℕ) (xs : List Item) (m b k d : ℕ) → is_ordinary xs b k ≡ true
+    → bound_in (own_words text xs) xs m b k ≡ Some d
+    → option_map listed (variable_at text xs m b k) ≡ Some (spans_where xs (is_use_of text xs m b d))
+local_listed text xs m b k d ordinary is =
+    ap (λ c. option_map listed (cond c (option_map of (bound_in (own_words text xs) xs m b k)) None)) ordinary
+    ∙ ap (λ o. option_map listed (option_map of o)) is
+    ∙ ap (λ l. Some l) (map_twice _ (λ (u : LocalUse). u.name) (filter (used (own_words text xs k)) (range_with_len 0 (length xs)))
+    ∙ ap (λ n. spans_where xs (used n)) (sym (bound_to (is_ordinary xs b) (declares xs m b) (own_words text xs) (scope_of xs m b) k d is).same))
+  where
+    of : ℕ → LocalName
+    of e = variable_of xs (is_named text xs b (own_words text xs k)) (declares_name text xs m b (own_words text xs k)) (scope_of xs m b) e
+
+    used : List ℕ → ℕ → Bool
+    used name j = is_named text xs b name j
+        && is_bound_in (declares_name text xs m b name) (scope_of xs m b) (scope_of xs m b d).first j
+
+pub label_listed : (text : List ℕ) (xs : List Item) (b k : ℕ)
+    → listed (label_of text xs b k) ≡ spans_where xs (is_label_use text xs b k)
+label_listed text xs b k =
+    map_twice (λ j. label_use xs (is_label xs b j) j) (λ (u : LocalUse). u.name)
+    (filter (is_label_use text xs b k) (range_with_len 0 (length xs)))

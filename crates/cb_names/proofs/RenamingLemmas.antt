@@ -1,5 +1,5 @@
 -- Where the uses of a local have a new word, that no ordinary name has, all names are bound as before.
-use Rattle.std.proofs.Common.{◌≡◌, ◌∙◌, ◌<◌, ℕ, suc, Bool, true, false, List, Option, Some, None}
+use Rattle.std.proofs.Common.{◌≡◌, ◌∙◌, ◌<◌, ◌≤◌, ℕ, suc, Bool, true, false, List, Option, Some, None}
 use Rattle.std.proofs.Common.{⊎_elim, refl, sym, ap, arith}
 use Rattle.std.proofs.lemmas.Bool.{and_from, and_parts, cases_Bool, eqb-true, false≢true}
 use Rattle.std.proofs.lemmas.Slice.Eq.{bytes_eq-Decides}
@@ -22,6 +22,31 @@ is_word v w = (bytes_eq-Decides v w).1
 either : (a b : Bool) → (a ≡ true → b ≡ true) → (b ≡ true → a ≡ true) → a ≡ b
 either true b to from = sym (to refl)
 either false b to from = ⊎_elim (λ is. absurd (false≢true (from is))) sym (cases_Bool b)
+
+-- what an index is bound to has its word and declares it
+module _ (ordinary declares : ℕ → Bool) (word : ℕ → List ℕ) (scope : ℕ → Scope) where
+  pub record BoundTo (k d : ℕ) : Type 0 where
+    pub le : d ≤ k
+    pub named : ordinary d ≡ true
+    pub same : word d ≡ word k
+    pub is : declares_word word ordinary declares (word k) d ≡ true
+
+  pub bound_to : (k d : ℕ) → bound_by word ordinary declares scope k ≡ Some d → BoundTo k d
+  bound_to k d is = record {
+    le = omega (arith, s.less);
+    named = of_name.0;
+    same = word_is (word d) (word k) of_name.1;
+    is = declared;
+  }
+    where
+      s : Seen scope (declares_word word ordinary declares (word k)) k (suc k) d
+      s = seen_is scope (declares_word word ordinary declares (word k)) k (suc k) d is
+
+      declared : declares_word word ordinary declares (word k) d ≡ true
+      declared = (and_parts (declares_word word ordinary declares (word k) d) _ s.is).0
+
+      of_name : (ordinary d ≡ true) × (bytes_eq (word d) (word k) ≡ true)
+      of_name = and_parts (ordinary d) (bytes_eq (word d) (word k)) (and_parts (has word ordinary (word k) d) (declares d) declared).0
 
 module _ (l : ℕ) (ordinary declares : ℕ → Bool) (word : ℕ → List ℕ) (scope : ℕ → Scope) (name new : List ℕ) (first : ℕ)
     (fresh : (k : ℕ) → k < l → has word ordinary new k ≡ false)
@@ -84,28 +109,21 @@ module _ (l : ℕ) (ordinary declares : ℕ → Bool) (word : ℕ → List ℕ) 
       → edited d ≡ edited k
   edited_alike k d less o_k is =
       either (edited d) (edited k)
-      (λ e_d. let w = sym same ∙ had d e_d in
+      (λ e_d. let w = sym to.same ∙ had d e_d in
       and_from _ _ (and_from (ordinary k) (bytes_eq (word k) name) o_k (is_word (word k) name w))
       (here w ∙ sym (bound_is d d_less (named w)) ∙ in_scope d e_d))
       (λ e_k. let w = had k e_k in
       and_from _ _ (and_parts (has word ordinary name d) (declares d) (named w)).0
       (bound_is d d_less (named w) ∙ sym (here w) ∙ in_scope k e_k))
     where
-      s : Seen scope (declared (word k)) k (suc k) d
-      s = seen_is scope (declared (word k)) k (suc k) d is
+      to : BoundTo ordinary declares word scope k d
+      to = bound_to ordinary declares word scope k d is
 
       d_less : d < l
-      d_less = omega (arith, s.less, less)
-
-      is_declared : declared (word k) d ≡ true
-      is_declared = (and_parts (declared (word k) d) _ s.is).0
-
-      same : word d ≡ word k
-      same = word_is (word d) (word k) (and_parts (ordinary d) (bytes_eq (word d) (word k))
-          (and_parts (has word ordinary (word k) d) (declares d) is_declared).0).1
+      d_less = omega (arith, to.le, less)
 
       named : word k ≡ name → declared name d ≡ true
-      named w = sym (ap (λ n. declared n d) w) ∙ is_declared
+      named w = sym (ap (λ n. declared n d) w) ∙ to.is
 
       here : word k ≡ name → is_bound_in (declared name) scope first k ≡ ((scope d).first == first)
       here w = ap (λ o. option_map_or (λ e. (scope e).first == first) o false) (sym (ap (λ n. binding (declared n) scope k) w) ∙ is)
@@ -127,12 +145,10 @@ module _ (l : ℕ) (ordinary declares : ℕ → Bool) (word : ℕ → List ℕ) 
       kept : (e : ℕ) → seen_before (declared (word k)) scope k (suc k) ≡ Some e
           → declares_word after ordinary declares (after k) e ≡ true
       kept e is =
-          let s = seen_is scope (declared (word k)) k (suc k) e is in
-          let parts = and_parts (has word ordinary (word k) e) (declares e) (and_parts (declared (word k) e) _ s.is).0 in
-          let of_name = and_parts (ordinary e) (bytes_eq (word e) (word k)) parts.0 in
-          and_from _ _ (and_from (ordinary e) (bytes_eq (after e) (after k)) of_name.0
-          (is_word (after e) (after k) (stay_same e k (edited_alike k e less o_k is)
-          (word_is (word e) (word k) of_name.1)))) parts.1
+          let to = bound_to ordinary declares word scope k e is in
+          and_from _ _ (and_from (ordinary e) (bytes_eq (after e) (after k)) to.named
+          (is_word (after e) (after k) (stay_same e k (edited_alike k e less o_k is) to.same)))
+          (and_parts (has word ordinary (word k) e) (declares e) to.is).1
 
   -- the new word is that of the indices that are edited, and of no other ordinary name
   pub new_exactly : (k : ℕ) → k < l → has after ordinary new k ≡ edited k
@@ -170,27 +186,9 @@ module _ (l : ℕ) (ordinary declares : ℕ → Bool) (word : ℕ → List ℕ) 
       by None is none = absurd (false≢true none)
       by (Some e) is begins = record { to = e; is = is; begins = eqb-true (scope e).first at begins }
 
-  record Declaring (k d : ℕ) : Type 0 where
-    less : d < l
-    same : word d ≡ word k
-    is : declared (word d) d ≡ true
-
-  declaring : (k d : ℕ) → k < l → bound_by word ordinary declares scope k ≡ Some d → Declaring k d
-  declaring k d less is = record {
-    less = omega (arith, s.less, less);
-    same = same;
-    is = ap (λ n. declared n d) same ∙ is_declared;
-  }
-    where
-      s : Seen scope (declared (word k)) k (suc k) d
-      s = seen_is scope (declared (word k)) k (suc k) d is
-
-      is_declared : declared (word k) d ≡ true
-      is_declared = (and_parts (declared (word k) d) _ s.is).0
-
-      same : word d ≡ word k
-      same = word_is (word d) (word k) (and_parts (ordinary d) (bytes_eq (word d) (word k))
-          (and_parts (has word ordinary (word k) d) (declares d) is_declared).0).1
+  pub declared_itself : (k d : ℕ) → bound_by word ordinary declares scope k ≡ Some d → declared (word d) d ≡ true
+  declared_itself k d is =
+      let to = bound_to ordinary declares word scope k d is in ap (λ n. declared n d) to.same ∙ to.is
 
   -- the uses of a local stay
   pub uses_same : (d k j : ℕ) → k < l → j < l → ordinary k ≡ true → bound_by word ordinary declares scope k ≡ Some d
@@ -226,13 +224,17 @@ module _ (l : ℕ) (ordinary declares : ℕ → Bool) (word : ℕ → List ℕ) 
           let of_name = and_parts (ordinary j) (bytes_eq (word j) (word k)) parts.0 in
           let w : word j ≡ word k = word_is (word j) (word k) of_name.1 in
           let b = bound_at j at (ap (λ n. is_bound_in (declared n) scope at j) w ∙ parts.1) in
-          let e = declaring j b.to j_less b.is in
-          let f = declaring k d k_less is in
+          let e = bound_to ordinary declares word scope j b.to b.is in
+          let f = bound_to ordinary declares word scope k d is in
+          let e_less : b.to < l = omega (arith, e.le, j_less) in
+          let d_less : d < l = omega (arith, f.le, k_less) in
+          let e_is = declared_itself j b.to b.is in
+          let d_is = declared_itself k d is in
           let same : word b.to ≡ word d = e.same ∙ w ∙ sym f.same in
           let alike : edited j ≡ edited k = sym (edited_alike j b.to j_less of_name.0 b.is)
           ∙ either (edited b.to) (edited d)
-          (one_edited b.to d e.less f.less e.is f.is same b.begins)
-          (one_edited d b.to f.less e.less f.is e.is (sym same) (sym b.begins))
+          (one_edited b.to d e_less d_less e_is d_is same b.begins)
+          (one_edited d b.to d_less e_less d_is e_is (sym same) (sym b.begins))
           ∙ edited_alike k d k_less o_k is in
           let a : after j ≡ after k = stay_same j k alike w in
           and_from _ _ (and_from (ordinary j) (bytes_eq (after j) (after k)) of_name.0 (is_word (after j) (after k) a))

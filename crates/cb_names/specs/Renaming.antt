@@ -1,16 +1,20 @@
 -- What names mean where tokens of a function have other words. Which tokens are ordinary names, which
 -- declare, which name labels, and their scopes stay as they are.
-use Rattle.std.specs.Prelude.{◌≡◌, ◌<◌, ℕ, Bool, true, false, ◌&&◌, ◌==◌, List, length, if◌then◌else◌}
-use Rattle.std.specs.Prelude.{Option, Some}
+use Rattle.std.specs.Prelude.{◌≡◌, ◌<◌, ℕ, Bool, true, false, ◌&&◌, ◌==◌, List, filter, length, map}
+use Rattle.std.specs.Prelude.{if◌then◌else◌, Option, Some}
+use Rattle.std.specs.List.{range_with_len}
 use Rattle.std.specs.Str.{bytes_eq}
+use Rattle.cb_scan.specs.declared.lex.piece.Span.{Span}
 use Rattle.cb_scan.specs.lex.Tokens.{bytes_of}
 use Rattle.cb_names.specs.Bindings.{binding, declares_name, is_bound_in, is_named, scope_of}
 use Rattle.cb_names.specs.Labels.{is_same, names_label, span}
+use Rattle.cb_names.specs.Locals.{LocalName}
 use Rattle.cb_names.specs.Pairs.{at, sign}
 use Rattle.cb_names.specs.Scoped.{declares}
 use Rattle.cb_names.specs.Scopes.{begins_for}
 use Rattle.cb_names.specs.Spaces.{is_ordinary}
 use Rattle.cb_names.specs.Statements.{in_block}
+use Rattle.cb_names.specs.declared.local.LocalUse.{LocalUse}
 use Rattle.cb_names.specs.declared.scopes.Scope.{Scope}
 use Rattle.cb_names.specs.declared.word.Item.{Item}
 
@@ -113,3 +117,13 @@ abbrev pub LabelsAsBefore : List ℕ → List Item → (b : ℕ) → (word : ℕ
 LabelsAsBefore text xs b word =
     (j k : ℕ) → j < length xs → k < length xs → names_label xs b j ≡ true
     → names_label xs b k ≡ true → bytes_eq (word j) (word k) ≡ is_same text xs j k
+
+-- ---- what is answered
+
+-- the tokens that pass a test
+abbrev pub spans_where : List Item → (test : ℕ → Bool) → List Span
+spans_where xs test = map (λ k. span (at xs k)) (filter test (range_with_len 0 (length xs)))
+
+-- the tokens that an answer lists
+abbrev pub listed : LocalName → List Span
+listed local = map (λ (u : LocalUse). u.name) local.uses

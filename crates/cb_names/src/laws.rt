@@ -1,10 +1,24 @@
 //! What follows from the definitions alone: no code runs here.
-ghost use Rattle.std.specs.Prelude.{◌≡◌, ◌<◌, ℕ, List, length};
+ghost use Rattle.std.specs.Prelude.{◌≡◌, ◌<◌, ℕ, true, List, Some, length, option_map};
+ghost use Rattle.cb_names.specs.Bindings.{variable_at};
+ghost use Rattle.cb_names.specs.Labels.{label_of};
 ghost use Rattle.cb_names.specs.Renaming.{AreBoundToThemselves, BindsAsBefore, ForsAreInBlocks};
 ghost use Rattle.cb_names.specs.Renaming.{IsNewToLabels, IsNewToNames, LabelsAsBefore, UsesAsBefore};
-ghost use Rattle.cb_names.specs.Renaming.{has, is_use_of, own_words, with_label, with_local};
+ghost use Rattle.cb_names.specs.Renaming.{bound_in, has, is_label_use, is_use_of, listed, own_words};
+ghost use Rattle.cb_names.specs.Renaming.{spans_where, with_label, with_local};
 ghost use Rattle.cb_names.specs.Spaces.{is_ordinary};
 ghost use Rattle.cb_names.specs.declared.word.Item.{Item};
+
+/// What is answered for a name that is bound to a declaration lists the uses of the local that this
+/// declares; for a label it lists the tokens that name it.
+pub fn answers_list_the_uses()
+    ensures local { (text : List ℕ) (xs : List Item) (m b k d : ℕ) → is_ordinary xs b k ≡ true
+        → bound_in (own_words text xs) xs m b k ≡ Some d
+        → option_map listed (variable_at text xs m b k)
+        ≡ Some (spans_where xs (is_use_of text xs m b d)) }
+    ensures label { (text : List ℕ) (xs : List Item) (b k : ℕ)
+        → listed (label_of text xs b k) ≡ spans_where xs (is_label_use text xs b k) }
+{}
 
 /// Each declaration of a function is bound to itself if each `for` stands directly in a block.
 ///
