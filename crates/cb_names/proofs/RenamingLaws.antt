@@ -1,11 +1,12 @@
 -- The laws of renaming at the definitions of a function.
 use Rattle.std.proofs.Common.{◌≡◌, ◌∙◌, ◌<◌, ◌∷◌, [], ℕ, Bool, true, false, List, Option, Some, None}
 use Rattle.std.proofs.Common.{⊎_elim, refl, sym, ap, filter, length, map}
-use Rattle.std.proofs.lemmas.Bool.{and_parts, cases_Bool, false≢true}
+use Rattle.std.proofs.lemmas.Bool.{and_parts, cases_Bool, eqb-true, false≢true}
 use Rattle.std.specs.Prelude.{◌&&◌, ◌==◌, ◌||◌, cond, not, option_map}
 use Rattle.std.specs.List.{range_with_len}
+use Rattle.std.specs.Option.{option_map_or}
 use Rattle.std.specs.Str.{bytes_eq}
-use Rattle.cb_names.specs.Bindings.{declares_name, is_bound_in, is_named, scope_of, variable_at, variable_of}
+use Rattle.cb_names.specs.Bindings.{binding, declares_name, is_bound_in, is_named, scope_of, variable_at, variable_of}
 use Rattle.cb_names.specs.Braces.{is_name_at}
 use Rattle.cb_names.specs.Labels.{label_of, label_use, names_label}
 use Rattle.cb_names.specs.Locals.{LocalName}
@@ -16,10 +17,11 @@ use Rattle.cb_names.specs.Scoped.{declares, is_list}
 use Rattle.cb_names.specs.Spaces.{follows_accessor, is_ordinary, is_tag}
 use Rattle.cb_names.specs.Statements.{is_label}
 use Rattle.cb_names.specs.declared.local.LocalUse.{LocalUse}
+use Rattle.cb_names.specs.declared.scopes.Scope.{Scope}
 use Rattle.cb_names.specs.declared.word.Item.{Item}
 use Rattle.cb_names.proofs.ListLemmas.{lists_pair}
 use Rattle.cb_names.proofs.NestingLemmas.{in_own, nested}
-use Rattle.cb_names.proofs.RenamingLemmas.{bound_same, bound_to, kept_bound, new_exactly, told_same, uses_same}
+use Rattle.cb_names.proofs.RenamingLemmas.{bound_same, bound_to, kept_bound, new_exactly, told_same, uses_same, word_is}
 use Rattle.cb_names.proofs.SeenLemmas.{bound_to_itself}
 
 -- an ordinary name names no label
@@ -117,3 +119,30 @@ pub label_listed : (text : List ℕ) (xs : List Item) (b k : ℕ)
 label_listed text xs b k =
     map_twice (λ j. label_use xs (is_label xs b j) j) (λ (u : LocalUse). u.name)
     (filter (is_label_use text xs b k) (range_with_len 0 (length xs)))
+
+-- ---- uses
+at_first : (scope : ℕ → Scope) (o : Option ℕ) (i j : ℕ) → option_map_or (λ d. (scope d).first == i) o false ≡ true
+    → option_map_or (λ d. (scope d).first == j) o false ≡ true → i ≡ j
+at_first scope None i j one two = absurd (false≢true one)
+at_first scope (Some d) i j one two = sym (eqb-true (scope d).first i one) ∙ eqb-true (scope d).first j two
+
+pub use_has_word : (text : List ℕ) (xs : List Item) (m b d k : ℕ) → is_use_of text xs m b d k ≡ true
+    → own_words text xs k ≡ own_words text xs d
+use_has_word text xs m b d k is =
+    word_is (own_words text xs k) (own_words text xs d)
+    (and_parts (is_ordinary xs b k) (bytes_eq (own_words text xs k) (own_words text xs d))
+    (and_parts (is_named text xs b (own_words text xs d) k) _ is).0).1
+
+pub uses_apart : (text : List ℕ) (xs : List Item) (m b d e k : ℕ) → is_use_of text xs m b d k ≡ true
+    → is_use_of text xs m b e k ≡ true → (j : ℕ) → is_use_of text xs m b d j ≡ is_use_of text xs m b e j
+uses_apart text xs m b d e k of_d of_e j =
+    (λ i. is_named text xs b (name i) j && is_bound_in (declares_name text xs m b (name i)) (scope_of xs m b) (first i) j)
+  where
+    name : own_words text xs d ≡ own_words text xs e
+    name = sym (use_has_word text xs m b d k of_d) ∙ use_has_word text xs m b e k of_e
+
+    first : (scope_of xs m b d).first ≡ (scope_of xs m b e).first
+    first = at_first (scope_of xs m b) (binding (declares_name text xs m b (own_words text xs d)) (scope_of xs m b) k) _ _
+        (and_parts (is_named text xs b (own_words text xs d) k) _ of_d).1
+        (ap (λ n. is_bound_in (declares_name text xs m b n) (scope_of xs m b) (scope_of xs m b e).first k) name
+        ∙ (and_parts (is_named text xs b (own_words text xs e) k) _ of_e).1)

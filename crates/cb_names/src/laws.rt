@@ -20,6 +20,16 @@ pub fn answers_list_the_uses()
         → listed (label_of text xs b k) ≡ spans_where xs (is_label_use text xs b k) }
 {}
 
+/// Each use of a local has the word of its declaration. Two locals that have a use in common have all
+/// uses in common: they are one.
+pub fn uses_are_apart()
+    ensures word { (text : List ℕ) (xs : List Item) (m b d k : ℕ)
+        → is_use_of text xs m b d k ≡ true → own_words text xs k ≡ own_words text xs d }
+    ensures apart { (text : List ℕ) (xs : List Item) (m b d e k : ℕ)
+        → is_use_of text xs m b d k ≡ true → is_use_of text xs m b e k ≡ true
+        → (j : ℕ) → is_use_of text xs m b d j ≡ is_use_of text xs m b e j }
+{}
+
 /// Each declaration of a function is bound to itself if each `for` stands directly in a block.
 ///
 /// Elsewhere, as in the arguments of a macro, a `for` is a scope to what its parentheses declare, but
