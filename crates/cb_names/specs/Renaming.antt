@@ -1,5 +1,5 @@
--- What names mean where tokens of a function have other words. Which tokens are ordinary names, which
--- declare, which name labels, and their scopes stay as they are.
+-- What names mean where tokens of a function have other words. Which tokens are ordinary names,
+-- which declare, which name labels, and their scopes stay as they are.
 use Rattle.std.specs.Prelude.{◌≡◌, ◌<◌, ℕ, Bool, true, false, ◌&&◌, ◌==◌, List, filter, length, map}
 use Rattle.std.specs.Prelude.{if◌then◌else◌, Option, Some}
 use Rattle.std.specs.List.{range_with_len}

@@ -3,14 +3,14 @@ ghost use Rattle.std.specs.Prelude.{◌≡◌, ◌<◌, ℕ, true, List, Some, l
 ghost use Rattle.cb_names.specs.Bindings.{variable_at};
 ghost use Rattle.cb_names.specs.Labels.{label_of};
 ghost use Rattle.cb_names.specs.Renaming.{AreBoundToThemselves, BindsAsBefore, ForsAreInBlocks};
-ghost use Rattle.cb_names.specs.Renaming.{IsNewToLabels, IsNewToNames, LabelsAsBefore, UsesAsBefore};
-ghost use Rattle.cb_names.specs.Renaming.{bound_in, has, is_label_use, is_use_of, listed, own_words};
-ghost use Rattle.cb_names.specs.Renaming.{spans_where, with_label, with_local};
+ghost use Rattle.cb_names.specs.Renaming.{IsNewToLabels, IsNewToNames, LabelsAsBefore};
+ghost use Rattle.cb_names.specs.Renaming.{UsesAsBefore, bound_in, has, is_label_use, is_use_of};
+ghost use Rattle.cb_names.specs.Renaming.{listed, own_words, spans_where, with_label, with_local};
 ghost use Rattle.cb_names.specs.Spaces.{is_ordinary};
 ghost use Rattle.cb_names.specs.declared.word.Item.{Item};
 
-/// What is answered for a name that is bound to a declaration lists the uses of the local that this
-/// declares; for a label it lists the tokens that name it.
+/// The answer for a name that is bound to a declaration lists the uses of the local declared there.
+/// The answer for a label lists the tokens that name it.
 pub fn answers_list_the_uses()
     ensures local { (text : List ℕ) (xs : List Item) (m b k d : ℕ) → is_ordinary xs b k ≡ true
         → bound_in (own_words text xs) xs m b k ≡ Some d
@@ -20,8 +20,8 @@ pub fn answers_list_the_uses()
         → listed (label_of text xs b k) ≡ spans_where xs (is_label_use text xs b k) }
 {}
 
-/// Each use of a local has the word of its declaration. Two locals that have a use in common have all
-/// uses in common: they are one.
+/// Each use of a local has the word of its declaration. Two locals with a use in common have all uses
+/// in common: they are one.
 pub fn uses_are_apart()
     ensures word { (text : List ℕ) (xs : List Item) (m b d k : ℕ)
         → is_use_of text xs m b d k ≡ true → own_words text xs k ≡ own_words text xs d }
@@ -32,20 +32,23 @@ pub fn uses_are_apart()
 
 /// Each declaration of a function is bound to itself if each `for` stands directly in a block.
 ///
-/// Elsewhere, as in the arguments of a macro, a `for` is a scope to what its parentheses declare, but
-/// not to what else is declared on its level.
+/// Elsewhere this can fail: in the body of an enumeration, a `for` is a scope for what its
+/// parentheses declare, but not for the enumerators behind it.
 pub fn declarations_are_bound_to_themselves()
     ensures { (text : List ℕ) (xs : List Item) (m b : ℕ) (name : List ℕ) → ForsAreInBlocks xs b
         → AreBoundToThemselves text xs m b name }
 {}
 
-/// Let the uses of a local have a new word, which no ordinary name of the function has. Then each
-/// ordinary name is bound to the same declaration as before; the local that it means has the same
-/// uses; the names with the new word are exactly those that were edited; and labels stay.
+/// Give the uses of a local a new word that no ordinary name of the function has. Then each ordinary
+/// name is bound to the same declaration as before, and the local that it means has the same uses.
+/// The names with the new word are exactly those that were edited. Labels stay as they are.
 ///
-/// The declarations of the old name have to be bound to themselves. The law is about words: which
-/// tokens are names, which declare, and where scopes begin and end is as before. That a scan of the
-/// new text finds the same tokens is not said here, nor what names mean that stand in macros.
+/// The declarations of the old name must be bound to themselves, as
+/// [`declarations_are_bound_to_themselves`] shows.
+///
+/// The law is about words. Which tokens are names, which of them declare, and where scopes begin and
+/// end is taken to be as before. That a scan of the new text finds the same tokens is not proved
+/// here, and names outside the function, as in the bodies of macros, are not looked at.
 pub fn renaming_keeps_locals()
     ensures bindings { (text : List ℕ) (xs : List Item) (m b d : ℕ) (new : List ℕ)
         → AreBoundToThemselves text xs m b (own_words text xs d) → IsNewToNames text xs b new
@@ -61,11 +64,10 @@ pub fn renaming_keeps_locals()
         → LabelsAsBefore text xs b (with_local text xs m b d new) }
 {}
 
-/// Let the tokens that name a label have a new word, which no token that names a label has. Then two
-/// tokens name the same label if they did before, and else not; and ordinary names are bound as
-/// before.
+/// Give the tokens that name a label a new word that no label of the function has. Then two tokens
+/// name the same label exactly if they did before. Ordinary names are bound as before.
 ///
-/// The law is about words, as the one on locals.
+/// This law is about words too.
 pub fn renaming_keeps_labels()
     ensures labels { (text : List ℕ) (xs : List Item) (b k : ℕ) (new : List ℕ)
         → IsNewToLabels text xs b new → LabelsAsBefore text xs b (with_label text xs b k new) }
