@@ -218,7 +218,6 @@ module _ (xs : List Item) (b : ℕ) where
 
   -- ---- the kinds of scopes
   module _ (is_list : ℕ → Bool)
-      (fors : (k : ℕ) → begins_for xs k ≡ true → (sign xs k == 0 && in_block xs b k) ≡ true)
       (lists : (j : ℕ) → is_list j ≡ true → partner xs j ≡ None → ⊥) where
     -- the scope of a bracket that is open
     pub record InBracket (k : ℕ) (s : Scope) : Type 0 where
@@ -254,11 +253,15 @@ module _ (xs : List Item) (b : ℕ) where
       pub block : is_block (kind_at xs b bracket) ≡ true
       pub plain : sign xs f ≡ 0
 
-    level_is : (f : ℕ) → begins_for xs f ≡ true → Level f
-    level_is f begins = by (innermost xs f) refl parts.1
+    -- a scope that is that of a `for` is one of a word directly in a block
+    abbrev Fits : Scope → Type 0
+    Fits s = begins_for xs s.first ≡ true → (sign xs s.first == 0 && in_block xs b s.first) ≡ true
+
+    level_is : (f : ℕ) (s : Scope) → s ≡ scope_of_for xs b f → Fits s → begins_for xs f ≡ true → Level f
+    level_is f s s_is fits begins = by (innermost xs f) refl parts.1
       where
         parts : ((sign xs f == 0) ≡ true) × (in_block xs b f ≡ true)
-        parts = and_parts (sign xs f == 0) (in_block xs b f) (fors f begins)
+        parts = and_parts (sign xs f == 0) (in_block xs b f) (subst Fits s_is fits begins)
 
         by : (o : Option ℕ) → innermost xs f ≡ o → option_map_or (λ j. is_block (kind_at xs b j)) o false ≡ true → Level f
         by None o_is is = absurd (false≢true is)
@@ -284,13 +287,14 @@ module _ (xs : List Item) (b : ℕ) where
     abbrev other : ℕ → List ℕ → Scope
     other j around = option_map_or (scope_of_for xs b) (for_of xs j) (listed j around)
 
-    kind_in_is : (k t : ℕ) (js : List ℕ) → Chain xs t js → opened xs t ≡ js → Here k t → Kind k (scope_in is_list xs b t js)
+    kind_in_is : (k t : ℕ) (js : List ℕ) → Chain xs t js → opened xs t ≡ js → Here k t → Fits (scope_in is_list xs b t js)
+        → Kind k (scope_in is_list xs b t js)
     unfolding scope_in Chain
-    kind_in_is k t [] c is here = inl refl
-    kind_in_is k t (j ∷ around) c is here =
+    kind_in_is k t [] c is here fits = inl refl
+    kind_in_is k t (j ∷ around) c is here fits =
         ⊎_elim
         (λ block. of_block block (for_before xs b j t) refl)
-        (λ unblocked. of_other (λ held. kind_in_is k j around c.3 (sym c.2) (inr held)) unblocked (for_of xs j) refl)
+        (λ unblocked. of_other (λ held rest. kind_in_is k j around c.3 (sym c.2) (inr held) rest) unblocked (for_of xs j) refl)
         (cases_Bool (is_block (kind_at xs b j)))
       where
         inner : innermost xs t ≡ Some j
@@ -311,20 +315,22 @@ module _ (xs : List Item) (b : ℕ) where
             }))
         of_block block (Some f) o_is =
             let g = goes_is j f t o_is in
+            let path : cond (is_block (kind_at xs b j)) (blocked t j) (other j around) ≡ scope_of_for xs b f
+            = ap (λ c. cond c (blocked t j) (other j around)) block
+            ∙ ap (λ o. option_map_or (scope_of_for xs b) o (scope_of_bracket xs j)) o_is in
             inr (inr (record {
               begin = f;
               bracket = j;
               top = t;
               goes = g;
-              plain = (level_is f (begins_parts j f g.begins).0).plain;
+              plain = (level_is f _ path fits (begins_parts j f g.begins).0).plain;
               block = block;
               inner = inner;
               here = here;
-              is = ap (λ c. cond c (blocked t j) (other j around)) block
-                  ∙ ap (λ o. option_map_or (scope_of_for xs b) o (scope_of_bracket xs j)) o_is;
+              is = path;
             }))
 
-        of_list : (has j (opened xs k) ≡ true → Kind k (scope_in is_list xs b j around))
+        of_list : (has j (opened xs k) ≡ true → Fits (scope_in is_list xs b j around) → Kind k (scope_in is_list xs b j around))
             → is_block (kind_at xs b j) ≡ false → for_of xs j ≡ None
             → Kind k (cond (is_block (kind_at xs b j)) (blocked t j) (other j around))
         of_list outer unblocked none =
@@ -338,18 +344,22 @@ module _ (xs : List Item) (b : ℕ) where
               kind = inr (unblocked, none, list);
               is = path ∙ ap (λ c. cond c (scope_of_bracket xs j) (scope_in is_list xs b j around)) list;
             })))
-            (λ isnt. subst (Kind k)
-            (sym (path ∙ ap (λ c. cond c (scope_of_bracket xs j) (scope_in is_list xs b j around)) isnt)) (outer held))
+            (λ isnt. let out : cond (is_block (kind_at xs b j)) (blocked t j) (other j around) ≡ scope_in is_list xs b j around
+            = path ∙ ap (λ c. cond c (scope_of_bracket xs j) (scope_in is_list xs b j around)) isnt in
+            subst (Kind k) (sym out) (outer held (subst Fits out fits)))
             (cases_Bool (is_list j))
 
-        of_other : (has j (opened xs k) ≡ true → Kind k (scope_in is_list xs b j around))
+        of_other : (has j (opened xs k) ≡ true → Fits (scope_in is_list xs b j around) → Kind k (scope_in is_list xs b j around))
             → is_block (kind_at xs b j) ≡ false → (o : Option ℕ) → for_of xs j ≡ o
             → Kind k (cond (is_block (kind_at xs b j)) (blocked t j) (other j around))
         of_other outer unblocked None o_is = of_list outer unblocked o_is
         of_other outer unblocked (Some f) o_is =
             let o = of_is j f o_is in
             let j_is : j ≡ suc f = o.1 in
-            let level = level_is f o.0 in
+            let path : cond (is_block (kind_at xs b j)) (blocked t j) (other j around) ≡ scope_of_for xs b f
+            = ap (λ c. cond c (blocked t j) (other j around)) unblocked
+            ∙ ap (λ o. option_map_or (scope_of_for xs b) o (listed j around)) o_is in
+            let level = level_is f _ path fits o.0 in
             inr (inr (record {
               begin = f;
               bracket = level.bracket;
@@ -364,12 +374,11 @@ module _ (xs : List Item) (b : ℕ) where
               block = level.block;
               inner = ap (λ n. innermost xs n) j_is ∙ ap (λ l. slice_get l 0) (plain_opened f level.plain) ∙ level.is;
               here = inr held;
-              is = ap (λ c. cond c (blocked t j) (other j around)) unblocked
-                  ∙ ap (λ o. option_map_or (scope_of_for xs b) o (listed j around)) o_is;
+              is = path;
             }))
 
-    kind_is : (k : ℕ) → Kind k (scope_at is_list xs b k)
-    kind_is k = kind_in_is k k (opened xs k) (chain_of xs k) refl (inl refl)
+    kind_is : (k : ℕ) → Fits (scope_at is_list xs b k) → Kind k (scope_at is_list xs b k)
+    kind_is k fits = kind_in_is k k (opened xs k) (chain_of xs k) refl (inl refl) fits
 
     -- ---- where the statement of a `for` ends
     last_is : (f j : ℕ) → innermost xs f ≡ Some j
@@ -475,8 +484,8 @@ module _ (xs : List Item) (b : ℕ) where
             ∙ ap (λ o. or_last xs (option_or o (end_of xs (r.bracket ∷ opened xs r.bracket)))) o_is in
             omega (arith, last, not_behind xs k r.bracket less (here_open k r.top r.bracket r.here r.inner))
 
-    pub in_own : (k : ℕ) → k < length xs → k ≤ (scope_at is_list xs b k).last
-    in_own k less =
+    pub in_own : (k : ℕ) → Fits (scope_at is_list xs b k) → k < length xs → k ≤ (scope_at is_list xs b k).last
+    in_own k fits less =
         ⊎_elim
         (λ is. omega (arith, ap (λ (x : Scope). x.last) is, less))
         (λ more. ⊎_elim
@@ -484,7 +493,7 @@ module _ (xs : List Item) (b : ℕ) where
         omega (arith, ap (λ (x : Scope). x.last) r.is, not_behind xs k r.bracket less r.held))
         (λ r. in_own_for k (scope_at is_list xs b k) less r)
         more)
-        (kind_is k)
+        (kind_is k fits)
 
     -- ---- scopes nest
     -- the scope around a token begins no further out than an index, if that holds of all brackets from a
@@ -669,13 +678,13 @@ module _ (xs : List Item) (b : ℕ) where
 
     -- the scope around a token that is seen at another one behind it begins no further in than the
     -- scope around that one
-    pub nested : (d k : ℕ) → d ≤ k → k < length xs → k ≤ (scope_at is_list xs b d).last
+    pub nested : (d k : ℕ) → Fits (scope_at is_list xs b d) → d ≤ k → k < length xs → k ≤ (scope_at is_list xs b d).last
         → (scope_at is_list xs b d).first ≤ (scope_at is_list xs b k).first
-    nested d k le less in_it =
+    nested d k fits le less in_it =
         ⊎_elim
         (λ is. omega (arith, ap (λ (x : Scope). x.first) is))
         (λ more. ⊎_elim
         (λ r. nested_bracket d k (scope_at is_list xs b d) le less in_it r)
         (λ r. nested_for d k (scope_at is_list xs b d) le less in_it r)
         more)
-        (kind_is d)
+        (kind_is d fits)

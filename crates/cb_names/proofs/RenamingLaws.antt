@@ -1,6 +1,6 @@
 -- The laws of renaming at the definitions of a function.
 use Rattle.std.proofs.Common.{◌≡◌, ◌∙◌, ◌<◌, ◌∷◌, [], ℕ, Bool, true, false, List, Option, Some, None}
-use Rattle.std.proofs.Common.{⊎_elim, refl, sym, ap, filter, length, map}
+use Rattle.std.proofs.Common.{⊎_elim, refl, sym, ap, arith, filter, length, map}
 use Rattle.std.proofs.lemmas.Bool.{and_parts, cases_Bool, eqb-true, false≢true}
 use Rattle.std.specs.Prelude.{◌&&◌, ◌==◌, ◌||◌, cond, not, option_map}
 use Rattle.std.specs.List.{range_with_len}
@@ -39,11 +39,12 @@ apart xs b k ordinary label =
         by false false = refl
 
 module _ (text : List ℕ) (xs : List Item) (m b : ℕ) where
-  pub bound_to_themselves : (name : List ℕ) → ForsAreInBlocks xs b → AreBoundToThemselves text xs m b name
+  pub bound_to_themselves : (name : List ℕ) → ForsAreInBlocks text xs m b name → AreBoundToThemselves text xs m b name
   bound_to_themselves name fors k less is =
       bound_to_itself (scope_of xs m b) (declares_name text xs m b name) k is
-      (in_own xs b (is_list xs m b) fors (lists_pair xs m b) k less)
-      (λ d le declared seen. nested xs b (is_list xs m b) fors (lists_pair xs m b) d k le less seen)
+      (in_own xs b (is_list xs m b) (lists_pair xs m b) k (fors k less is) less)
+      (λ d le declared seen.
+      nested xs b (is_list xs m b) (lists_pair xs m b) d k (fors d (omega (arith, le, less)) declared) le less seen)
 
   module _ (d : ℕ) (new : List ℕ) (own : AreBoundToThemselves text xs m b (own_words text xs d)) (fresh : IsNewToNames text xs b new) where
     pub local_binds : BindsAsBefore text xs m b (with_local text xs m b d new)

@@ -86,10 +86,12 @@ abbrev pub IsNewToLabels : List ℕ → List Item → (b : ℕ) → List ℕ →
 IsNewToLabels text xs b new =
     (k : ℕ) → k < length xs → (names_label xs b k && bytes_eq (own_words text xs k) new) ≡ false
 
--- each `for (` of the function is a word directly in a block
-abbrev pub ForsAreInBlocks : List Item → (b : ℕ) → Type 0
-ForsAreInBlocks xs b =
-    (k : ℕ) → begins_for xs k ≡ true → (sign xs k == 0 && in_block xs b k) ≡ true
+-- each `for` that is the scope of a declaration of the name is a word directly in a block
+abbrev pub ForsAreInBlocks : List ℕ → List Item → (m b : ℕ) → (name : List ℕ) → Type 0
+ForsAreInBlocks text xs m b name =
+    (k : ℕ) → k < length xs → declares_name text xs m b name k ≡ true
+    → let f = (scope_of xs m b k).first in
+    begins_for xs f ≡ true → (sign xs f == 0 && in_block xs b f) ≡ true
 
 -- each declaration of a name is bound to itself
 abbrev pub AreBoundToThemselves : List ℕ → List Item → (m b : ℕ) → (name : List ℕ) → Type 0

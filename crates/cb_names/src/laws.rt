@@ -30,13 +30,14 @@ pub fn uses_are_apart()
         → (j : ℕ) → is_use_of text xs m b d j ≡ is_use_of text xs m b e j }
 {}
 
-/// Each declaration of a function is bound to itself if each `for` stands directly in a block.
+/// Each declaration of a name is bound to itself if each `for` that is the scope of one stands
+/// directly in a block.
 ///
 /// Elsewhere this can fail: in the body of an enumeration, a `for` is a scope for what its
 /// parentheses declare, but not for the enumerators behind it.
 pub fn declarations_are_bound_to_themselves()
-    ensures { (text : List ℕ) (xs : List Item) (m b : ℕ) (name : List ℕ) → ForsAreInBlocks xs b
-        → AreBoundToThemselves text xs m b name }
+    ensures { (text : List ℕ) (xs : List Item) (m b : ℕ) (name : List ℕ)
+        → ForsAreInBlocks text xs m b name → AreBoundToThemselves text xs m b name }
 {}
 
 /// Give the uses of a local a new word that no ordinary name of the function has. Then each ordinary
