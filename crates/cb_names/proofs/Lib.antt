@@ -7,6 +7,7 @@ pub mod DeclaredLemmas
 pub mod HardLemmas
 pub mod LabelLemmas
 pub mod ListLemmas
+pub mod MacroLemmas
 pub mod NestingLemmas
 pub mod PairingLemmas
 pub mod RenamingLaws

@@ -3,10 +3,12 @@ pub mod Bindings
 pub mod Braces
 pub mod Declarations
 pub mod Declarators
+pub mod FunctionNames
 pub mod Functions
 pub mod HardAttributes
 pub mod Labels
 pub mod Locals
+pub mod Macros
 pub mod Meanings
 pub mod Pairs
 pub mod Renaming

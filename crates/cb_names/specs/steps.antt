@@ -6,6 +6,7 @@ pub mod Naming
 pub mod Namings
 pub mod Opening
 pub mod Pairing
+pub mod Replacing
 pub mod Scoping
 pub mod Starting
 pub mod Telling

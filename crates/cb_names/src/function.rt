@@ -15,7 +15,11 @@ use cb_scan::{Range, Rules, ScanError, Source, WideToken, code_tokens, function_
 use std::alloc::{AllocError, Global};
 
 /// The tokens of the code, and what the word of each is.
-fn items_of(alloc: Global, text: &[u8], tokens: &[WideToken]) -> Result<Vec<Item>, AllocError>
+pub(crate) fn items_of(
+    alloc: Global,
+    text: &[u8],
+    tokens: &[WideToken],
+) -> Result<Vec<Item>, AllocError>
     requires { AllByRecursion (IsTokenOf text.now) tokens.now }
     ensures { IfOk result (λ found. found.items ≡ map (item_of text.now) tokens.now) }
 {
@@ -81,19 +85,24 @@ pub(crate) fn body_of(items: &[Item], range: Range) -> usize
         .count()
 }
 
-/// The tokens of a function without the attributes that are left out everywhere.
+/// The tokens of a function: from the first of its head to the end of its body.
+pub(crate) fn extent(items: &[Item], range: Range) -> &[Item]
+    requires { length items.now < 2 ^ 32 }
+    ensures value { result.now ≡ extent items.now range }
+    ensures few { length result.now ≤ length items.now }
+{
+    let head = head_before(items, before(range.name.start, items) as u32) as usize;
+    let until = &items[..before(range.end, items)];
+    &until[until.len().min(head)..]
+}
+
+/// The same without the attributes that are left out everywhere.
 fn own_items(alloc: Global, items: &[Item], range: Range) -> Result<Vec<Item>, AllocError>
     requires { length items.now < 2 ^ 32 }
     ensures value { IfOk result (λ found. found.items ≡ own_items items.now range) }
     ensures few { IfOk result (λ found. length found.items ≤ length items.now) }
 {
-    let head = head_before(items, before(range.name.start, items) as u32) as usize;
-    let until = &items[..before(range.end, items)];
-    if head <= until.len() {
-        without_hard(alloc, &until[head..])
-    } else {
-        without_hard(alloc, &[])
-    }
+    without_hard(alloc, extent(items, range))
 }
 
 /// The same of the tokens of the code.
@@ -143,6 +152,19 @@ pub(crate) struct Function {
     pub items: Vec<Item>,
 }
 
+/// The range of the function around a place, or of the next one.
+pub(crate) fn function_around(
+    alloc: Global,
+    source: &Source,
+    place: u32,
+) -> Result<Option<Range>, ScanError>
+    ensures value { IfOk result (λ found. found ≡ function_at source.now place) }
+    ensures memory { IfErr result (λ e. e ≡ ScanError.OutOfMemory) }
+{
+    let ranges = function_ranges(alloc, Rules::Wide, source)?;
+    Ok(function_among(ranges.as_slice(), place))
+}
+
 /// The function around a place, or the next one.
 pub(crate) fn function_at(
     alloc: Global,
@@ -159,8 +181,7 @@ pub(crate) fn function_at(
         (λ f. AllByRecursion (IsItemOf source.now) f.items.items)) }
     ensures memory { IfErr result (λ e. e ≡ ScanError.OutOfMemory) }
 {
-    let ranges = function_ranges(alloc, Rules::Wide, source)?;
-    let Some(range) = function_among(ranges.as_slice(), place) else {
+    let Some(range) = function_around(alloc, source, place)? else {
         return Ok(None);
     };
     let tokens = code_tokens(alloc, source)?;

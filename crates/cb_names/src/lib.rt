@@ -31,5 +31,11 @@ mod local;
 mod meaning;
 mod spaces;
 
+// What macros make of names, and the names of a function that may be macros.
+mod macros;
+mod names;
+
 pub use local::{Access, Local, LocalUse};
+pub use macros::{Macro, MacroName, macro_at};
 pub use meaning::local_at;
+pub use names::{Arguments, FunctionNames, function_names};
