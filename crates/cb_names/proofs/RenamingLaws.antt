@@ -8,9 +8,10 @@ use Rattle.std.specs.Option.{option_map_or}
 use Rattle.std.specs.Str.{bytes_eq}
 use Rattle.cb_names.specs.Bindings.{binding, declares_name, is_bound_in, is_named, scope_of, variable_at, variable_of}
 use Rattle.cb_names.specs.Braces.{is_name_at}
-use Rattle.cb_names.specs.Labels.{label_of, label_use, names_label}
+use Rattle.cb_names.specs.Labels.{follows_goto, label_of, label_use, names_label}
 use Rattle.cb_names.specs.Locals.{LocalName}
-use Rattle.cb_names.specs.Renaming.{AreBoundToThemselves, BindsAsBefore, ForsAreInBlocks, IsNewToLabels, IsNewToNames}
+use Rattle.cb_names.specs.Renaming.{AreBoundToThemselves, BindsAsBefore, ForsAreInBlocks, IsNewToAll, IsNewToLabels}
+use Rattle.cb_names.specs.Renaming.{IsNewToNames}
 use Rattle.cb_names.specs.Renaming.{LabelsAsBefore, UsesAsBefore, bound_in, has, is_label_use, is_use_of, listed}
 use Rattle.cb_names.specs.Renaming.{own_words, spans_where, with_label, with_local}
 use Rattle.cb_names.specs.Scoped.{declares, is_list}
@@ -147,3 +148,18 @@ uses_apart text xs m b d e k of_d of_e j =
         (and_parts (is_named text xs b (own_words text xs d) k) _ of_d).1
         (ap (λ n. is_bound_in (declares_name text xs m b n) (scope_of xs m b) (scope_of xs m b e).first k) name
         ∙ (and_parts (is_named text xs b (own_words text xs e) k) _ of_e).1)
+
+-- ---- new words
+new_to : (name kind word : Bool) → (name ≡ true → word ≡ false) → ((name && kind) && word) ≡ false
+new_to true true word new = new refl
+new_to true false word new = refl
+new_to false kind word new = refl
+
+pub new_to_names : (text : List ℕ) (xs : List Item) (b : ℕ) (new : List ℕ) → IsNewToAll text xs new → IsNewToNames text xs b new
+new_to_names text xs b new fresh k less =
+    new_to (is_name_at xs k) (not (follows_accessor xs k || is_tag xs k || names_label xs b k))
+    (bytes_eq (own_words text xs k) new) (fresh k less)
+
+pub new_to_labels : (text : List ℕ) (xs : List Item) (b : ℕ) (new : List ℕ) → IsNewToAll text xs new → IsNewToLabels text xs b new
+new_to_labels text xs b new fresh k less =
+    new_to (is_name_at xs k) (follows_goto xs k || is_label xs b k) (bytes_eq (own_words text xs k) new) (fresh k less)

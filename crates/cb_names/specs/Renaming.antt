@@ -7,6 +7,7 @@ use Rattle.std.specs.Str.{bytes_eq}
 use Rattle.cb_scan.specs.declared.lex.piece.Span.{Span}
 use Rattle.cb_scan.specs.lex.Tokens.{bytes_of}
 use Rattle.cb_names.specs.Bindings.{binding, declares_name, is_bound_in, is_named, scope_of}
+use Rattle.cb_names.specs.Braces.{is_name_at}
 use Rattle.cb_names.specs.Labels.{is_same, names_label, span}
 use Rattle.cb_names.specs.Locals.{LocalName}
 use Rattle.cb_names.specs.Pairs.{at, sign}
@@ -85,6 +86,11 @@ IsNewToNames text xs b new = (k : ℕ) → k < length xs → is_named text xs b 
 abbrev pub IsNewToLabels : List ℕ → List Item → (b : ℕ) → List ℕ → Type 0
 IsNewToLabels text xs b new =
     (k : ℕ) → k < length xs → (names_label xs b k && bytes_eq (own_words text xs k) new) ≡ false
+
+-- no name of the function has the word
+abbrev pub IsNewToAll : List ℕ → List Item → List ℕ → Type 0
+IsNewToAll text xs new =
+    (k : ℕ) → k < length xs → is_name_at xs k ≡ true → bytes_eq (own_words text xs k) new ≡ false
 
 -- each `for` that is the scope of a declaration of the name is a word directly in a block
 abbrev pub ForsAreInBlocks : List ℕ → List Item → (m b : ℕ) → (name : List ℕ) → Type 0

@@ -3,7 +3,7 @@ ghost use Rattle.std.specs.Prelude.{◌≡◌, ◌<◌, ℕ, true, List, Some, l
 ghost use Rattle.cb_names.specs.Bindings.{variable_at};
 ghost use Rattle.cb_names.specs.Labels.{label_of};
 ghost use Rattle.cb_names.specs.Renaming.{AreBoundToThemselves, BindsAsBefore, ForsAreInBlocks};
-ghost use Rattle.cb_names.specs.Renaming.{IsNewToLabels, IsNewToNames, LabelsAsBefore};
+ghost use Rattle.cb_names.specs.Renaming.{IsNewToAll, IsNewToLabels, IsNewToNames, LabelsAsBefore};
 ghost use Rattle.cb_names.specs.Renaming.{UsesAsBefore, bound_in, has, is_label_use, is_use_of};
 ghost use Rattle.cb_names.specs.Renaming.{listed, own_words, spans_where, with_label, with_local};
 ghost use Rattle.cb_names.specs.Spaces.{is_ordinary};
@@ -38,6 +38,14 @@ pub fn uses_are_apart()
 pub fn declarations_are_bound_to_themselves()
     ensures { (text : List ℕ) (xs : List Item) (m b : ℕ) (name : List ℕ)
         → ForsAreInBlocks text xs m b name → AreBoundToThemselves text xs m b name }
+{}
+
+/// A word that no name of a function has is new to its ordinary names and to its labels.
+pub fn unused_words_are_new()
+    ensures names { (text : List ℕ) (xs : List Item) (b : ℕ) (new : List ℕ)
+        → IsNewToAll text xs new → IsNewToNames text xs b new }
+    ensures labels { (text : List ℕ) (xs : List Item) (b : ℕ) (new : List ℕ)
+        → IsNewToAll text xs new → IsNewToLabels text xs b new }
 {}
 
 /// Give the uses of a local a new word that no ordinary name of the function has. Then each ordinary
