@@ -20,8 +20,8 @@ pub fn answers_list_the_uses()
         → listed (label_of text xs b k) ≡ spans_where xs (is_label_use text xs b k) }
 {}
 
-/// Each use of a local has the word of its declaration. Two locals with a use in common have all uses
-/// in common: they are one.
+/// Each use of a local has the word of its declaration. Two locals with a use in common have all
+/// uses in common: they are one.
 pub fn uses_are_apart()
     ensures word { (text : List ℕ) (xs : List Item) (m b d k : ℕ)
         → is_use_of text xs m b d k ≡ true → own_words text xs k ≡ own_words text xs d }
@@ -48,15 +48,16 @@ pub fn unused_words_are_new()
         → IsNewToAll text xs new → IsNewToLabels text xs b new }
 {}
 
-/// Give the uses of a local a new word that no ordinary name of the function has. Then each ordinary
-/// name is bound to the same declaration as before, and the local that it means has the same uses.
-/// The names with the new word are exactly those that were edited. Labels stay as they are.
+/// Give the uses of a local a new word that no ordinary name of the function has. Then each
+/// ordinary name is bound to the same declaration as before, and the local that it means has the
+/// same uses. The names with the new word are exactly those that were edited. Labels stay as they
+/// are.
 ///
 /// The declarations of the old name must be bound to themselves, as
 /// [`declarations_are_bound_to_themselves`] shows.
 ///
-/// The law is about words. Which tokens are names, which of them declare, and where scopes begin and
-/// end is taken to be as before. That a scan of the new text finds the same tokens is not proved
+/// The law is about words. Which tokens are names, which of them declare, and where scopes begin
+/// and end is taken to be as before. That a scan of the new text finds the same tokens is not proved
 /// here, and names outside the function, as in the bodies of macros, are not looked at.
 pub fn renaming_keeps_locals()
     ensures bindings { (text : List ℕ) (xs : List Item) (m b d : ℕ) (new : List ℕ)
