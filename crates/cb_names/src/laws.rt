@@ -57,8 +57,8 @@ pub fn unused_words_are_new()
 /// [`declarations_are_bound_to_themselves`] shows.
 ///
 /// The law is about words. Which tokens are names, which of them declare, and where scopes begin
-/// and end is taken to be as before. That a scan of the new text finds the same tokens is not proved
-/// here, and names outside the function, as in the bodies of macros, are not looked at.
+/// and end is taken to be as before. That a scan of the new text finds the same tokens is not
+/// proved here, and names outside the function, as in the bodies of macros, are not looked at.
 pub fn renaming_keeps_locals()
     ensures bindings { (text : List ℕ) (xs : List Item) (m b d : ℕ) (new : List ℕ)
         → AreBoundToThemselves text xs m b (own_words text xs d) → IsNewToNames text xs b new
