@@ -203,7 +203,7 @@ module _ (xs : List Item) where
 
   -- ---- a bracket that stays open
 
-  chain_has : (k j : ℕ) (js : List ℕ) → Chain k js → has j js ≡ true → j < k
+  pub chain_has : (k j : ℕ) (js : List ℕ) → Chain k js → has j js ≡ true → j < k
   unfolding has Chain
   chain_has k j [] c is = absurd (false≢true is)
   chain_has k j (i ∷ js) c is =
@@ -248,7 +248,7 @@ module _ (xs : List Item) where
       by None is = is
       by (Some n) is = beyond_has n j (opened xs k) is
 
-  inside_from : (j k n i : ℕ) → i + n ≡ k → j < i → has j (opened xs k) ≡ true → has j (opened xs i) ≡ true
+  pub inside_from : (j k n i : ℕ) → i + n ≡ k → j < i → has j (opened xs k) ≡ true → has j (opened xs i) ≡ true
   inside_from j k zero i is less held = ap (λ m. has j (opened xs m)) (omega (arith, is)) ∙ held
   inside_from j k (suc n) i is less held =
       stays_held i j (inside_from j k n (suc i) (omega (arith, is)) (omega (arith, less)) held) less

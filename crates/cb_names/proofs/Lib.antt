@@ -6,9 +6,15 @@ pub mod DeclaratorLemmas
 pub mod DeclaredLemmas
 pub mod HardLemmas
 pub mod LabelLemmas
+pub mod ListLemmas
 pub mod MacroLemmas
+pub mod NestingLemmas
 pub mod PairingLemmas
+pub mod RenamingLaws
+pub mod RenamingLemmas
+pub mod SeenLemmas
 pub mod SignLemmas
+pub mod StackLemmas
 pub mod StatementLemmas
 pub mod ScopeLemmas
 pub mod ShapeLemmas

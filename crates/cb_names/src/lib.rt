@@ -2,8 +2,8 @@
 //! branches of `#if`.
 //!
 //! [`local_at`] finds what a name means that is known in its function alone: a label, a local
-//! variable or a parameter. The crate stands on `cb_scan` (tokens of the code, functions) and knows
-//! one text at a time.
+//! variable or a parameter. [`laws`] say what stays where a local or a label has a new word. The
+//! crate stands on `cb_scan` (tokens of the code, functions) and knows one text at a time.
 #![tactic(auto)]
 
 // The tokens of a function: what the word of each is, which are of attributes, which brackets pair,
@@ -26,6 +26,7 @@ mod statements;
 mod accesses;
 mod bindings;
 mod labels;
+pub mod laws;
 mod local;
 mod meaning;
 mod spaces;
