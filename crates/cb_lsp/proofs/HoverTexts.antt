@@ -45,3 +45,14 @@ hover-parts file text line small =
     (append-nil (escape (readable text)))
     ∙ sym (escapes (readable file) (codes ":") (decimal line) (codes "\n") (readable text)
     (number-plain line small))
+
+-- a file and a line of it, and what is behind
+pub place-parts : (file : List ℕ) (line : ℕ) (more : List ℕ) → line < 2 ^ 64
+    → escape file ++ (codes ":" ++ (decimal line ++ more))
+    ≡ escape (file ++ (codes ":" ++ decimal line)) ++ more
+unfolding escape_byte
+place-parts file line more small =
+    ap (λ l. escape file ++ (codes ":" ++ (l ++ more))) (sym (number-plain line small))
+    ∙ sym (append_assoc (escape file) (codes ":" ++ escape (decimal line)) more)
+    ∙ ap (λ l. (escape file ++ l) ++ more) (sym (flat_map-append escape_byte (codes ":") (decimal line)))
+    ∙ ap (λ l. l ++ more) (sym (flat_map-append escape_byte file (codes ":" ++ decimal line)))

@@ -25,6 +25,7 @@ pub mod KeptClients
 pub mod Likes
 pub mod LineMarks
 pub mod Listed
+pub mod LocalEdits
 pub mod LostTold
 pub mod ManyTurns
 pub mod Marks

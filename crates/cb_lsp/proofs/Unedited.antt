@@ -6,7 +6,7 @@ use Rattle.std.specs.List.{AllByRecursion}
 use Rattle.std.specs.Option.{option_map}
 use Rattle.std.specs.Str.{bytes_eq}
 use Rattle.json.specs.Json.{Json}
-use Rattle.cb_desk.specs.World.{File, text_of_file}
+use Rattle.cb_desk.specs.World.{text_of_file}
 use Rattle.cb_index.specs.Rows.{Fact}
 use Rattle.cb_tags.specs.Writers.{Writer}
 use Rattle.cb_tags.specs.Writing.{Puts}
@@ -19,8 +19,8 @@ use Rattle.cb_lsp.specs.Bodies.{Replies}
 use Rattle.cb_lsp.specs.Clients.{Client}
 use Rattle.cb_lsp.specs.Documents.{Looked, Oracle, Reading, Work, behind_reading, is_open}
 use Rattle.cb_lsp.specs.Documents.{looked_by}
-use Rattle.cb_lsp.specs.Renames.{Check, Unrenamed, all_edits, check, check_more, check_read, checks}
-use Rattle.cb_lsp.specs.Renames.{files_of, is_never_edited, not_open, ok_unless, renamed_if}
+use Rattle.cb_lsp.specs.Renames.{Check, Unrenamed, check, check_more, check_read, checks}
+use Rattle.cb_lsp.specs.Renames.{files_of, is_never_edited, not_open, ok_unless}
 use Rattle.cb_lsp.specs.Renames.{then_check, unless_found, unless_linked}
 use Rattle.cb_lsp.specs.declared.rename.Unedited.{Unedited}
 use Rattle.cb_lsp.specs.steps.References.{UsesAreByPlace}
@@ -226,25 +226,27 @@ check-found finds f c w file result all is_one may some is said found =
 -- ---- the reply
 
 -- a file is not edited
-pub renamed-so : {A E : Type 0} (finds : Looked → Type 0) (k : Check) (c : Client)
-    (files : List File) (new : List ℕ) (us : List Fact) (why : Unrenamed) (id : Json)
-    (before after : Writer) (r : Result A E) → (Some why ≡ k.why) × AllByRecursion finds k.read
+pub renamed-so : {A E : Type 0} (finds : Looked → Type 0) (k : Check) (j : Json)
+    (why : Unrenamed) (id : Json) (before after : Writer) (r : Result A E)
+    → (Some why ≡ k.why) × AllByRecursion finds k.read
     → Puts before after r (frame (value_text (answer_reply id (Err why))))
-    → Replies finds (reply_with id (renamed_if c files new us k)) before after r
-renamed-so finds k c files new us why id before after r told put = (
-  subst (λ y. Puts before after r (frame (value_text (answer_reply id
-      (ok_unless (all_edits c files new us) y))))) told.0 put,
+    → Replies finds (reply_with id (record { answer = ok_unless j k.why; read = k.read }))
+    before after r
+renamed-so finds k j why id before after r told put = (
+  subst (λ y. Puts before after r (frame (value_text (answer_reply id (ok_unless j y))))) told.0
+      put,
   told.1,
 )
 
 -- each file is edited
-pub renamed-none : {A E : Type 0} (finds : Looked → Type 0) (k : Check) (c : Client)
-    (files : List File) (new : List ℕ) (us : List Fact) (id : Json) (before after : Writer)
-    (r : Result A E) → (None ≡ k.why) × AllByRecursion finds k.read
-    → Puts before after r (frame (value_text (result_reply id (all_edits c files new us))))
-    → Replies finds (reply_with id (renamed_if c files new us k)) before after r
-renamed-none finds k c files new us id before after r told put = (
-  subst (λ y. Puts before after r (frame (value_text (answer_reply id
-      (ok_unless (all_edits c files new us) y))))) told.0 put,
+pub renamed-none : {A E : Type 0} (finds : Looked → Type 0) (k : Check) (j id : Json)
+    (before after : Writer) (r : Result A E)
+    → (None ≡ k.why) × AllByRecursion finds k.read
+    → Puts before after r (frame (value_text (result_reply id j)))
+    → Replies finds (reply_with id (record { answer = ok_unless j k.why; read = k.read }))
+    before after r
+renamed-none finds k j id before after r told put = (
+  subst (λ y. Puts before after r (frame (value_text (answer_reply id (ok_unless j y))))) told.0
+      put,
   told.1,
 )

@@ -44,7 +44,8 @@ use Rattle.cb_lsp.specs.declared.question.PlaceQuestion.TheVariants.{Definition,
 use Rattle.cb_lsp.specs.declared.question.PlaceQuestion.TheVariants.{References, PrepareRename}
 use Rattle.cb_lsp.specs.declared.question.PlaceQuestion.TheVariants.{Callables}
 use Rattle.cb_lsp.specs.References.{references}
-use Rattle.cb_lsp.specs.Renames.{Answered, Unrenamed, if_renamable, prepared, renamed_at}
+use Rattle.cb_lsp.specs.LocalRenames.{renamed_at}
+use Rattle.cb_lsp.specs.Renames.{Answered, Unrenamed, if_renamable, prepared}
 use Rattle.cb_lsp.specs.Renames.{unrenamed_text, without_reading}
 use Rattle.cb_lsp.specs.Searches.{found_by}
 use Rattle.cb_lsp.specs.Symbols.{file_place, file_symbol, place_of, place_of_use}
@@ -129,6 +130,11 @@ abbrev pub local_hover_at : Client → (name text : List ℕ) → Option Span �
 local_hover_at c name text None definition = null
 local_hover_at c name text (Some word) definition = local_hover c name text word definition
 
+-- the range of a word that is renamed: its name has a definition
+abbrev pub prepared_local : Client → (text : List ℕ) → Option Span → Option Span → Json
+prepared_local c text word None = null
+prepared_local c text word (Some s) = prepared c text word
+
 -- one about a name that means something in its function alone, and about the word there
 abbrev pub local_answer : Client → (name text : List ℕ) → LocalName → Option Span → PlaceQuestion
     → Json
@@ -140,7 +146,7 @@ local_answer c name text own word Highlights =
 local_answer c name text own word (References declarations) =
     list_of (map (λ (u : LocalUse). token_place c.root c.encoding name text u.name)
     (uses_wanted declarations own.uses))
-local_answer c name text own word PrepareRename = null
+local_answer c name text own word PrepareRename = prepared_local c text word own.definition
 local_answer c name text own word Callables = null
 
 -- one about a name that may mean something in its function alone

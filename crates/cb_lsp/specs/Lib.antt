@@ -18,6 +18,7 @@ pub mod Headers
 pub mod Highlights
 pub mod Hovers
 pub mod Likes
+pub mod LocalRenames
 pub mod Locals
 pub mod Meaning
 pub mod MeaningExamples

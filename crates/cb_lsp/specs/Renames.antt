@@ -1,15 +1,13 @@
 -- What is renamed: the uses of a name in its reach, where the editor has the text of each of their
 -- files.
 use Rattle.std.specs.Prelude.{ℕ, Bool, true, false, ◌&&◌, ◌||◌, ◌++◌, ◌==◌, not, List, [], ◌∷◌}
-use Rattle.std.specs.Prelude.{codes, filter, map, length, ◌+◌, take, Option, None, Some, Result, Ok}
+use Rattle.std.specs.Prelude.{codes, decimal, filter, map, length, ◌+◌, take, Option, None, Some, Result, Ok}
 use Rattle.std.specs.Prelude.{Err, if◌then◌else◌}
 use Rattle.std.specs.List.{list_all, list_any}
 use Rattle.std.specs.Str.{bytes_eq}
 use Rattle.json.specs.Json.{Json, null}
-use Rattle.cb_desk.specs.World.{File, World, has_file, text_of_file}
+use Rattle.cb_desk.specs.World.{File, World, text_of_file}
 use Rattle.cb_index.specs.Rows.{Fact, tags_named, uses_of}
-use Rattle.cb_names.specs.Meanings.{local_at}
-use Rattle.cb_names.specs.Locals.{LocalName}
 use Rattle.cb_scan.specs.declared.facts.Use.{Use}
 use Rattle.cb_scan.specs.declared.lex.piece.Span.{Span}
 use Rattle.cb_scan.specs.lex.Reserved.{is_name}
@@ -17,9 +15,7 @@ use Rattle.cb_scan.specs.lex.Tokens.{bytes_of}
 use Rattle.cb_scan.specs.Profiles.{facts_in}
 use Rattle.cb_tags.specs.TagLines.{Tag}
 use Rattle.cb_wire.specs.declared.list.TheConstants.{MOST_ELEMENTS}
-use Rattle.cb_wire.specs.declared.position.Position.{Position}
 use Rattle.cb_wire.specs.Edits.{FileEdits, edit_of, edits_of}
-use Rattle.cb_wire.specs.Positions.{place}
 use Rattle.cb_wire.specs.Uris.{path_below, uri_of}
 use Rattle.cb_wire.specs.Values.{range_tree}
 use Rattle.cb_lsp.specs.Clients.{Client}
@@ -30,7 +26,6 @@ use Rattle.cb_lsp.specs.Alike.{is_counted_alike}
 use Rattle.cb_lsp.specs.Names.{is_outside}
 use Rattle.cb_lsp.specs.Places.{range_of}
 use Rattle.cb_lsp.specs.References.{uses_reached}
-use Rattle.cb_lsp.specs.Words.{word_at}
 
 -- ---- the word
 
@@ -52,11 +47,6 @@ abbrev pub if_renamable : World → (text : List ℕ) → Option Span → Option
 if_renamable w text None = None
 if_renamable w text (Some word) = if may_be_renamed w text word then Some word else None
 
--- the word at a place that may be renamed: none that means something in its function alone
-abbrev pub renamable_at : World → (text : List ℕ) → (place : ℕ) → Option LocalName → Option Span
-renamable_at w text at None = if_renamable w text (word_at text at)
-renamable_at w text at (Some own) = None
-
 -- its range
 abbrev pub prepared : Client → (text : List ℕ) → Option Span → Json
 prepared c text None = null
@@ -75,6 +65,17 @@ pub data Unrenamed : Type 0 where
   second_name : (file : List ℕ) → Unrenamed
   -- memory was refused where a file was read again
   no_memory : Unrenamed
+  -- a macro or a typedef has the old name or the new one
+  macro_or_type : Unrenamed
+  -- a macro that the function names leads to one of them; or it stands in a directive
+  in_macro : (name : List ℕ) → Unrenamed
+  -- a macro may make something else of arguments that hold it
+  in_arguments : (name : List ℕ) → Unrenamed
+  -- a file is included in the function
+  from_outside : (header : List ℕ) → Unrenamed
+  -- a byte beside a use may be one of a name, or the file is not counted alike by all editors
+  odd_bytes : (file : List ℕ) → (line : ℕ) → Unrenamed
+  not_text : (file : List ℕ) → Unrenamed
 
 abbrev pub unrenamed_text : Unrenamed → List ℕ
 unrenamed_text no_definition = codes "no such definition"
@@ -83,6 +84,12 @@ unrenamed_text used_already = codes "name is used already"
 unrenamed_text (not_open file) = codes "not open: " ++ file
 unrenamed_text (second_name file) = codes "open under a second name: " ++ file
 unrenamed_text no_memory = codes "out of memory"
+unrenamed_text macro_or_type = codes "a macro or type has this name"
+unrenamed_text (in_macro name) = codes "used in a macro: " ++ name
+unrenamed_text (in_arguments name) = codes "in the arguments of a macro: " ++ name
+unrenamed_text (from_outside header) = codes "used from outside: " ++ header
+unrenamed_text (odd_bytes file line) = codes "odd bytes: " ++ (file ++ (codes ":" ++ decimal line))
+unrenamed_text (not_text file) = codes "not text: " ++ file
 
 -- ---- the uses that are renamed
 
@@ -224,14 +231,3 @@ renamed_word o c w name text new (Some word) =
     else (if is_some_use (uses_of w.world.profile new w.world.files)
     then without_reading (Err used_already)
     else renamed_all o c w new (renamed_uses w.world name text word))
-
--- the word at a position of a file of this name is renamed, if there is such a file
-abbrev pub renamed_at : Oracle → Client → Work → Position → (new : List ℕ) → Option (List ℕ)
-    → Answered
-renamed_at o c w p new None = without_reading (Err no_definition)
-renamed_at o c w p new (Some name) =
-    let text = text_of_file w.world.files name in
-    let at = place c.encoding text p in
-    if has_file w.world.files name
-    then renamed_word o c w name text new (renamable_at w.world text at (local_at text at))
-    else without_reading (Err no_definition)

@@ -4,6 +4,7 @@ pub mod Columns
 pub mod Completions
 pub mod Elements
 pub mod LineMarks
+pub mod LocalRenames
 pub mod Located
 pub mod Meanings
 pub mod Noted

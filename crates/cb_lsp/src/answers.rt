@@ -473,7 +473,7 @@ impl<'a> FileAsked<'a> {
     }
 
     /// Writes the range of a word of the file.
-    fn put_prepared<W: Write>(
+    pub(crate) fn put_prepared<W: Write>(
         &self,
         out: &mut Sink<W>,
         id: Id<'_>,

@@ -25,6 +25,7 @@ mod hover;
 mod kind;
 pub mod laws;
 mod local;
+mod local_rename;
 mod location;
 mod meaning;
 mod notice;

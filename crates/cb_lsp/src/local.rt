@@ -8,6 +8,7 @@ ghost use Rattle.cb_wire.specs.Texts.{frame};
 ghost use Rattle.cb_wire.specs.Trees.{result_reply};
 ghost use Rattle.cb_wire.specs.Values.{value_text};
 ghost use Rattle.cb_lsp.specs.Answers.{list_of, local_answer, local_hover, local_hover_at};
+ghost use Rattle.cb_lsp.specs.Answers.{prepared_local};
 ghost use Rattle.cb_lsp.specs.Locals.{definition_places, local_mark, mark_kind, token_place};
 ghost use Rattle.cb_lsp.specs.Locals.{uses_wanted};
 ghost use Rattle.cb_lsp.specs.steps.Elements.{local_marks_left, local_uses_left};
@@ -240,6 +241,23 @@ impl<'a> FileAsked<'a> {
         )
     }
 
+    /// Writes the range of a word whose local is renamed: one with a definition.
+    fn put_local_prepared<W: Write>(
+        &self,
+        out: &mut Sink<W>,
+        id: Id<'_>,
+        word: Option<Span>,
+        definition: Option<Span>,
+    ) -> Result<(), WriteFault>
+        ensures { Puts out.old out.new result (frame (value_text (result_reply (id_json id.entry)
+            (prepared_local (client_in self.now.forms) self.now.source.now word definition)))) }
+    {
+        match definition {
+            Some(_) => self.put_prepared(out, id, word),
+            None => put_null(out, id),
+        }
+    }
+
     /// Answers a question about a name that means something in its function alone, and about the
     /// word there.
     pub(crate) fn put_about_local<W: Write>(
@@ -261,7 +279,12 @@ impl<'a> FileAsked<'a> {
             PlaceQuestion::References(declarations) => {
                 self.put_local_uses(out, id, own.uses(), declarations)
             }
-            PlaceQuestion::PrepareRename => put_null(out, id),
+            PlaceQuestion::PrepareRename => self.put_local_prepared(
+                out,
+                id,
+                word,
+                own.definition(),
+            ),
             PlaceQuestion::Callables => put_null(out, id),
         }
     }

@@ -14,11 +14,12 @@ ghost use Rattle.cb_wire.specs.Values.{value_text};
 ghost use Rattle.cb_lsp.specs.Answers.{answer_reply, reply_with};
 ghost use Rattle.cb_lsp.specs.Bodies.{Replies};
 ghost use Rattle.cb_lsp.specs.Documents.{Oracle, Reading};
+ghost use Rattle.cb_lsp.specs.LocalRenames.{renamed_name};
 ghost use Rattle.cb_lsp.specs.Messages.{reply_unless};
 ghost use Rattle.cb_lsp.specs.Models.{found_in};
 ghost use Rattle.cb_lsp.specs.Names.{is_outside, leads_down};
 ghost use Rattle.cb_lsp.specs.Renames.{all_edits, are_open, check, checked, is_never_edited};
-ghost use Rattle.cb_lsp.specs.Renames.{is_some_use, renamable_at, renamed_all, renamed_uses};
+ghost use Rattle.cb_lsp.specs.Renames.{is_some_use, renamed_all, renamed_uses};
 ghost use Rattle.cb_lsp.specs.Renames.{renamed_word, unless_found, unless_linked};
 ghost use Rattle.cb_lsp.specs.steps.Located.{client_in};
 ghost use Rattle.cb_lsp.specs.steps.References.{UsesAreByPlace, reached_left};
@@ -34,12 +35,12 @@ use crate::location::Located;
 use crate::place::bytes_of;
 use crate::reach::Reached;
 use crate::word::word_at;
-use crate::written::{put_failure, put_not_open, put_refusal, put_second_name};
+use crate::written::{put_because, put_odd_bytes, put_refusal, put_refused};
 use cb_desk::Desk;
 use cb_names::local_at;
 use cb_scan::{Span, is_name};
 use cb_tags::{Sink, WriteFault};
-use cb_wire::{Elements, ErrorCode, FileEdit, Id, MOST_ELEMENTS, Part, Position, put_list_result};
+use cb_wire::{Elements, FileEdit, Id, MOST_ELEMENTS, Part, Position, put_list_result};
 use std::alloc::Global;
 use std::io::Write;
 
@@ -104,19 +105,35 @@ impl<'a, 'p> Elements for UseEdits<'a, 'p> {
     }
 }
 
-/// Why a file with a use is not edited.
+/// Why a name is not renamed.
 #[derive(Clone, Copy, Debug)]
-enum Unedited<'a> {
+pub(crate) enum Unedited<'a> {
     /// The editor may have another text than the server.
     NotOpen(&'a [u8]),
     /// The editor has it open under a second name.
     SecondName(&'a [u8]),
-    /// Memory was refused where it was read again.
+    /// Memory was refused where a file was read again.
     NoMemory,
+    /// The old name or the new one is none that a rename takes or gives.
+    BadName,
+    /// The new name stands where the old one does.
+    UsedAlready,
+    /// A macro or a typedef has one of them.
+    MacroOrType,
+    /// A macro that the function names leads to one of them.
+    InMacro(&'a [u8]),
+    /// A macro may make something else of arguments that hold it.
+    InArguments(&'a [u8]),
+    /// This header is included in the function.
+    FromOutside(&'a [u8]),
+    /// Beside a use, on this line, stands a byte that may be one of a name.
+    OddBytes(&'a [u8], u32),
+    /// Editors count columns of the file in different ways.
+    NotText(&'a [u8]),
 }
 
-/// Writes why a file is not edited.
-fn put_unedited<W: Write>(
+/// Writes why a name is not renamed.
+pub(crate) fn put_unedited<W: Write>(
     out: &mut Sink<W>,
     id: Id<'_>,
     why: Unedited<'_>,
@@ -125,9 +142,19 @@ fn put_unedited<W: Write>(
         (Err (reason_of why.entry))))) }
 {
     match why {
-        Unedited::NotOpen(file) => put_not_open(out, id, file),
-        Unedited::SecondName(file) => put_second_name(out, id, file),
+        Unedited::NotOpen(file) => put_because(out, id, b"not open: ", file),
+        Unedited::SecondName(file) => put_because(out, id, b"open under a second name: ", file),
         Unedited::NoMemory => put_refusal(out, id),
+        Unedited::BadName => put_refused(out, id, b"bad name"),
+        Unedited::UsedAlready => put_refused(out, id, b"name is used already"),
+        Unedited::MacroOrType => put_refused(out, id, b"a macro or type has this name"),
+        Unedited::InMacro(name) => put_because(out, id, b"used in a macro: ", name),
+        Unedited::InArguments(name) => {
+            put_because(out, id, b"in the arguments of a macro: ", name)
+        }
+        Unedited::FromOutside(header) => put_because(out, id, b"used from outside: ", header),
+        Unedited::OddBytes(file, line) => put_odd_bytes(out, id, file, line),
+        Unedited::NotText(file) => put_because(out, id, b"not text: ", file),
     }
 }
 
@@ -222,7 +249,7 @@ impl<'a> Renaming<'a> {
     }
 
     /// Why a file is not edited. It is read again, unless all files are open.
-    fn unedited<D: Disk>(
+    pub(crate) fn unedited<D: Disk>(
         &self,
         alloc: Global,
         disk: &D,
@@ -374,10 +401,10 @@ impl<'a> Renaming<'a> {
             self.now.new_name.now (Some word))) out.old out.new result }
     {
         if !is_name(self.new_name) {
-            return put_failure(out, id, ErrorCode::RequestFailed, b"bad name");
+            return put_refused(out, id, b"bad name");
         }
         if is_used(self.asked.desk, self.new_name) {
-            return put_failure(out, id, ErrorCode::RequestFailed, b"name is used already");
+            return put_refused(out, id, b"name is used already");
         }
         self.put_all(alloc, disk, out, id, word)
     }
@@ -398,7 +425,7 @@ impl<'a> Renaming<'a> {
     {
         match word {
             Some(word) => self.put_named(alloc, disk, out, id, word),
-            None => put_failure(out, id, ErrorCode::RequestFailed, b"no such definition"),
+            None => put_refused(out, id, b"no such definition"),
         }
     }
 
@@ -415,12 +442,10 @@ impl<'a> Renaming<'a> {
             ≡ facts_in (work_in self.now).world.profile self.now.asked.source.now }
         ensures { (no_memory : Bool) × (o : Oracle) × Replies (D.finds disk.now)
             (reply_unless no_memory (id_json id.entry)
-            (renamed_word o (client_in self.now.asked.forms)
-            (work_in self.now) self.now.asked.name.now self.now.asked.source.now
-            self.now.new_name.now
             (let at = place self.now.asked.forms.encoding self.now.asked.source.now position in
-            renamable_at (work_in self.now).world self.now.asked.source.now at
-            (local_at self.now.asked.source.now at)))) out.old out.new result }
+            renamed_name o (client_in self.now.asked.forms) (work_in self.now)
+            self.now.asked.name.now self.now.asked.source.now self.now.new_name.now at
+            (local_at self.now.asked.source.now at))) out.old out.new result }
     {
         let place = self.asked.place(position);
         match local_at(alloc, self.asked.source, place) {
@@ -430,7 +455,7 @@ impl<'a> Renaming<'a> {
                     .renamable(word_at(self.asked.source, place as usize));
                 self.put_word(alloc, disk, out, id, word)
             }
-            Ok(Some(_)) => self.put_word(alloc, disk, out, id, None),
+            Ok(Some(own)) => self.put_local(alloc, disk, out, id, place, &own),
             Err(_) => put_refusal(out, id),
         }
     }

@@ -1,22 +1,23 @@
 //! What is written besides answers.
-ghost use Rattle.std.specs.Prelude.{◌∷◌, [], Err, codes};
+ghost use Rattle.std.specs.Prelude.{◌++◌, ◌∷◌, [], Err, codes};
 ghost use Rattle.std.specs.Option.{option_copied};
 ghost use Rattle.json.specs.Json.{null};
 ghost use Rattle.cb_tags.specs.Writing.{Puts};
 ghost use Rattle.cb_wire.specs.Messages.{id_json};
+ghost use Rattle.cb_wire.specs.declared.reply.ErrorCode.TheVariants.{RequestFailed};
 ghost use Rattle.cb_wire.specs.Texts.{frame};
 ghost use Rattle.cb_wire.specs.Trees.{error_reply, result_reply};
 ghost use Rattle.cb_wire.specs.Uris.{escaped};
 ghost use Rattle.cb_wire.specs.Values.{value_text};
 ghost use Rattle.cb_lsp.specs.Answers.{answer_reply};
-ghost use Rattle.cb_lsp.specs.Renames.{not_open, second_name};
+ghost use Rattle.cb_lsp.specs.Renames.{odd_bytes};
 ghost use Rattle.cb_lsp.specs.Messages.{log_of, out_of_memory, out_of_memory_reply, show_if};
 ghost use Rattle.cb_lsp.specs.Messages.{show_of, unasked_reply};
 ghost use Rattle.cb_lsp.specs.Bodies.{written_text};
 
 use crate::question::Unasked;
 use cb_tags::{Sink, WriteFault};
-use cb_wire::{ErrorCode, Id, Part, put_error, put_log, put_result, put_show};
+use cb_wire::{ErrorCode, Id, Part, put_error, put_log, put_message, put_result, put_show};
 use std::io::Write;
 
 /// Writes why a request asks nothing.
@@ -98,29 +99,53 @@ pub(crate) fn put_failure<W: Write>(
     put_error(out, id, code, text, b"")
 }
 
-/// Writes that a file is not open, which would have to be edited.
-pub(crate) fn put_not_open<W: Write>(
+/// Writes why a rename is refused.
+pub(crate) fn put_refused<W: Write>(
     out: &mut Sink<W>,
     id: Id<'_>,
-    file: &[u8],
+    text: &[u8],
 ) -> Result<(), WriteFault>
     ensures { Puts out.old out.new result
-        (frame (value_text (answer_reply (id_json id.entry) (Err (not_open file.now))))) }
+        (frame (value_text (error_reply (id_json id.entry) RequestFailed text.now))) }
 {
-    put_error(out, id, ErrorCode::RequestFailed, b"not open: ", file)
+    put_failure(out, id, ErrorCode::RequestFailed, text)
 }
 
-/// Writes that a file is open under a second name, which would have to be edited.
-pub(crate) fn put_second_name<W: Write>(
+/// Writes why a rename is refused, and what is the cause.
+pub(crate) fn put_because<W: Write>(
     out: &mut Sink<W>,
     id: Id<'_>,
-    file: &[u8],
+    text: &[u8],
+    cause: &[u8],
 ) -> Result<(), WriteFault>
-    ensures { Puts out.old out.new result
-        (frame (value_text (answer_reply (id_json id.entry) (Err (second_name file.now))))) }
+    ensures { Puts out.old out.new result (frame (value_text
+        (error_reply (id_json id.entry) RequestFailed (text.now ++ cause.now)))) }
 {
-    let text = b"open under a second name: ";
-    put_error(out, id, ErrorCode::RequestFailed, text, file)
+    put_error(out, id, ErrorCode::RequestFailed, text, cause)
+}
+
+/// Writes that bytes beside a use are the cause, on a line of a file.
+pub(crate) fn put_odd_bytes<'a, W: Write>(
+    out: &mut Sink<W>,
+    id: Id<'a>,
+    file: &'a [u8],
+    line: u32,
+) -> Result<(), WriteFault>
+    ensures { Puts out.old out.new result (frame (value_text (answer_reply (id_json id.entry)
+        (Err (odd_bytes file.now line))))) }
+{
+    put_message(
+        out,
+        &[
+            Part::Raw(b"{\"jsonrpc\":\"2.0\",\"id\":"),
+            Part::Id(id),
+            Part::Raw(b",\"error\":{\"code\":-32803,\"message\":\"odd bytes: "),
+            Part::Escaped(file),
+            Part::Raw(b":"),
+            Part::Number(line as usize),
+            Part::Raw(b"\"}}"),
+        ],
+    )
 }
 
 /// Writes a text to the log of the client.

@@ -10,11 +10,15 @@ use Rattle.cb_wire.specs.Edits.{edit_text}
 use Rattle.cb_wire.specs.Uris.{uri_of}
 use Rattle.cb_lsp.specs.Clients.{Client}
 use Rattle.cb_lsp.specs.Documents.{Looked, Oracle, Work, behind_reading}
-use Rattle.cb_lsp.specs.Renames.{Check, Unrenamed, check, no_memory, not_open}
-use Rattle.cb_lsp.specs.Renames.{second_name, then_check, use_edit}
+use Rattle.cb_lsp.specs.Renames.{Check, Unrenamed, bad_name, check, from_outside, in_arguments}
+use Rattle.cb_lsp.specs.Renames.{in_macro, macro_or_type, no_memory, not_open, not_text, odd_bytes}
+use Rattle.cb_lsp.specs.Renames.{second_name, then_check, use_edit, used_already}
 use Rattle.cb_lsp.specs.declared.rename.Renaming.{Renaming}
 use Rattle.cb_lsp.specs.declared.rename.Unedited.{Unedited}
-use Rattle.cb_lsp.specs.declared.rename.Unedited.TheVariants.{NoMemory, NotOpen, SecondName}
+use Rattle.cb_lsp.specs.declared.rename.Unedited.TheVariants.{BadName, FromOutside, InArguments}
+use Rattle.cb_lsp.specs.declared.rename.Unedited.TheVariants.{InMacro, MacroOrType, NoMemory}
+use Rattle.cb_lsp.specs.declared.rename.Unedited.TheVariants.{NotOpen, NotText, OddBytes, SecondName}
+use Rattle.cb_lsp.specs.declared.rename.Unedited.TheVariants.{UsedAlready}
 use Rattle.cb_lsp.specs.declared.rename.UseEdits.{UseEdits}
 use Rattle.cb_lsp.specs.steps.References.{reached_left}
 
@@ -51,6 +55,14 @@ abbrev pub reason_of : Unedited → Unrenamed
 reason_of (NotOpen file) = not_open file.now
 reason_of (SecondName file) = second_name file.now
 reason_of NoMemory = no_memory
+reason_of BadName = bad_name
+reason_of UsedAlready = used_already
+reason_of MacroOrType = macro_or_type
+reason_of (InMacro name) = in_macro name.now
+reason_of (InArguments name) = in_arguments name.now
+reason_of (FromOutside header) = from_outside header.now
+reason_of (OddBytes file line) = odd_bytes file.now line
+reason_of (NotText file) = not_text file.now
 
 -- a check comes to this result, and what was read for it is what is found there
 abbrev pub ComesTo : (finds : Looked → Type 0) → Check → Option Unedited → Type 0

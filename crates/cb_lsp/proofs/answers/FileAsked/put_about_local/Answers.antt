@@ -5,7 +5,7 @@ use Rattle.cb_wire.specs.Texts.{frame}
 use Rattle.cb_wire.specs.Trees.{result_reply}
 use Rattle.cb_wire.specs.Values.{value_text}
 use Rattle.cb_names.specs.declared.local.LocalUse.{LocalUse}
-use Rattle.cb_lsp.specs.Answers.{list_of, local_answer, local_hover_at}
+use Rattle.cb_lsp.specs.Answers.{list_of, local_answer, local_hover_at, prepared_local}
 use Rattle.cb_lsp.specs.Locals.{definition_places, local_mark, token_place, uses_wanted}
 use Rattle.cb_lsp.specs.steps.Located.{client_in}
 use Rattle.cb_lsp.proofs.answers.FileAsked.put_about_local.Goals as goal
@@ -62,16 +62,19 @@ returns-in-References g c =
 pub returns-in-PrepareRename : goal.returns-in-PrepareRename
 returns-in-PrepareRename g c =
     let f = c.args.self.now in
-    let call = c.put_null in
+    let call = c.put_local_prepared in
     subst (λ q. Puts c.args.out.now call.new.out call.result
     (frame (value_text (result_reply (id_json c.args.id)
     (local_answer (client_in f.forms) f.name.now f.source.now c.args.own.now c.args.word q)))))
-    (sym c.in-PrepareRename.is) call.ensures
+    (sym c.in-PrepareRename.is) (subst (λ d. Puts c.args.out.now call.new.out call.result
+    (frame (value_text (result_reply (id_json c.args.id)
+    (prepared_local (client_in f.forms) f.source.now c.args.word d)))))
+    c.definition-in-PrepareRename.ensures call.ensures)
 
 pub returns-in-Callables : goal.returns-in-Callables
 returns-in-Callables g c =
     let f = c.args.self.now in
-    let call = c.put_null-in-Callables in
+    let call = c.put_null in
     subst (λ q. Puts c.args.out.now call.new.out call.result
     (frame (value_text (result_reply (id_json c.args.id)
     (local_answer (client_in f.forms) f.name.now f.source.now c.args.own.now c.args.word q)))))

@@ -20,7 +20,7 @@ returns-in-Some g c =
     let us = renamed_uses w.world f.asked.name.now f.asked.source.now c.args.word in
     let why = c.in-Some.ensures in (
       why.0,
-      renamed-so finds (checked why.0 cl w us) cl w.world.files f.new_name.now us
+      renamed-so finds (checked why.0 cl w us) (all_edits cl w.world.files f.new_name.now us)
           (reason_of c.in-Some.why) (id_json c.args.id) _ _ c.put_unedited.result
           (subst (λ (vs : List Fact). ComesTo finds (checked why.0 cl w vs)
           (Some c.in-Some.why)) c.uses.ensures.uses why.1) c.put_unedited.ensures,
@@ -36,7 +36,7 @@ returns-in-None g c =
     let why = c.in-None.ensures in
     let call = c.put_edits in (
       why.0,
-      renamed-none finds (checked why.0 cl w us) cl w.world.files f.new_name.now us
+      renamed-none finds (checked why.0 cl w us) (all_edits cl w.world.files f.new_name.now us)
           (id_json c.args.id) _ _ call.result
           (subst (λ (vs : List Fact). ComesTo finds (checked why.0 cl w vs) None)
           c.uses.ensures.uses why.1)

@@ -14,11 +14,11 @@ returns-then-not-is_name g c =
     let f = c.args.self.now in (
       quiet,
       subst (λ a. Replies finds (reply_with (id_json c.args.id) a) c.args.out.now
-          c.put_failure.new.out c.put_failure.result)
+          c.put_refused.new.out c.put_refused.result)
           (renamed-bad quiet (client_in f.asked.forms) (work_in f) f.asked.name.now
           f.asked.source.now f.new_name.now c.args.word
           (sym c.is_name.ensures ∙ c.if-not-is_name.true))
-          (c.put_failure.ensures, tt),
+          (c.put_refused.ensures, tt),
     )
 
 pub returns-then-is_used : goal.returns-then-is_used
@@ -27,11 +27,11 @@ returns-then-is_used g c =
     let f = c.args.self.now in (
       quiet,
       subst (λ a. Replies finds (reply_with (id_json c.args.id) a) c.args.out.now
-          c.put_failure-then-is_used.new.out c.put_failure-then-is_used.result)
+          c.put_refused-then-is_used.new.out c.put_refused-then-is_used.result)
           (renamed-used quiet (client_in f.asked.forms) (work_in f) f.asked.name.now
           f.asked.source.now f.new_name.now c.args.word
           (sym c.is_name.ensures ∙ c.if-not-is_name.false)
-          (sym c.is_used.ensures ∙ c.if-is_used.true)) (c.put_failure-then-is_used.ensures, tt),
+          (sym c.is_used.ensures ∙ c.if-is_used.true)) (c.put_refused-then-is_used.ensures, tt),
     )
 
 pub returns : goal.returns

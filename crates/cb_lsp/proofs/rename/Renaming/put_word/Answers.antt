@@ -27,6 +27,6 @@ returns-in-None g c =
       quiet,
       subst (λ x. Replies finds (reply_with (id_json c.args.id) (renamed_word quiet (client_in f.asked.forms) (work_in f)
           f.asked.name.now f.asked.source.now f.new_name.now x)) c.args.out.now
-          c.put_failure.new.out c.put_failure.result)
-          (sym c.in-None.is) (c.put_failure.ensures, tt),
+          c.put_refused.new.out c.put_refused.result)
+          (sym c.in-None.is) (c.put_refused.ensures, tt),
     )
