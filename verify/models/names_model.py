@@ -255,6 +255,14 @@ class Text:
             found.setdefault(token.text, []).append(token)
         return found
 
+    @functools.cached_property
+    def left_out(self):
+        """The places of the tokens of attributes that are left out."""
+        tokens, found = self.code.tokens, set()
+        for first, last in self.code.hard_last.items():
+            found.update(token.place for token in tokens[first : last + 1])
+        return found
+
     def is_list(self, thing):
         """Whether the scope of a thing is a list of parameters that is not of a function."""
         return thing.kind == "local" and thing.start in self.starts_of_lists

@@ -47,9 +47,10 @@ from disk_model import Disk, Write, do_on_disk
 from draw import Draw
 from draw_names import DrawNames
 from locals_model import locals_of
-from server_model import MOST_BODY, Ended, Outcome, Server, frame, headers, name_of_operand
+from server_model import MOST_BODY, Ended, Outcome, Server, frame, name_of_operand
 from server_model import place_of, position_of, serve
 from session_model import Bounds, Refused, load
+from text_model import headers
 
 sys.path.insert(0, str(pathlib.Path(__file__).resolve().parents[1]))
 from shared import options, words_given  # noqa: E402

@@ -4,6 +4,13 @@ alone.
 `names_model.py` says what is bound within a text. Here a free name is looked for in the files: in
 those that the asking file includes first, then in the nearest ones. A rename of a thing gives the
 places of its uses, or the reason why it is refused.
+
+The rules leave some things open, and are read so. Macros are followed forward, from a name that is
+one: in rounds, to those that the texts found so far name. The text of a macro is taken by itself: a
+name is a member there behind `->`, and behind a `.` that directly follows a name, `)` or `]`. Of
+macros with strange arguments the first by place refuses a rename. A place where the old name stands
+in an attribute that is left out refuses one as a place in a directive does. Of several reasons the
+first of the table counts.
 """
 
 from __future__ import annotations
@@ -13,9 +20,8 @@ import re
 from typing import NamedTuple
 
 import wide_model
-from names_model import Text, Thing
-from server_model import headers, is_counted_alike
-from text_model import RESERVED
+from names_model import Stream, Text, Thing
+from text_model import RESERVED, headers, is_counted_alike
 
 PRIVATE_KINDS = frozenset([b"d", b"t", b"s", b"u", b"g", b"e", b"m"])
 TAG_KINDS = {b"struct": b"s", b"union": b"u", b"enum": b"g"}
@@ -48,11 +54,48 @@ class NameOfFile(NamedTuple):
 
 
 class Macro(NamedTuple):
-    """A definition of a macro: its parameters, the spaces and the tokens of its text."""
+    """A definition of a macro: its parameters and its text."""
 
     parameters: frozenset
-    tokens: list
-    spaces: list
+    text: Stream
+
+    @property
+    def named(self):
+        """The names of the text that are no parameters."""
+        names = {token.text for token in self.text.tokens if token.is_name}
+        return names - self.parameters
+
+    def has(self, name):
+        """Whether the text has a name that is no parameter, and there neither a member nor a
+        tag."""
+        return name in self.named and any(
+            token.text == name and not self.is_apart(index)
+            for index, token in enumerate(self.text.tokens)
+        )
+
+    def is_apart(self, index):
+        """Whether a name of the text is a member or a tag."""
+        text = self.text
+        follows = text.is_name(index - 2) or text.text(index - 2) in (b")", b"]")
+        is_member = text.is_arrow(index - 2) or (text.is_dot(index - 1) and follows)
+        return is_member or text.text(index - 1) in TAG_KINDS
+
+    @property
+    def is_strange(self):
+        """Whether an argument can become something else than what it is."""
+        return any(
+            token.text == b"#" or token.text in STRANGE or self.is_strange_at(index)
+            for index, token in enumerate(self.text.tokens)
+        )
+
+    def is_strange_at(self, index):
+        """Whether a parameter stands where no variable does."""
+        text, befores = self.text, (b".", b"struct", b"union", b"enum", b"goto")
+        return text.text(index) in self.parameters and (
+            text.text(index - 1) in befores
+            or text.is_arrow(index - 2)
+            or text.text(index + 1) == b":"
+        )
 
 
 def folders(file):
@@ -85,8 +128,8 @@ def resolved(path):
 class Tree:
     """A set of files, by name, and what their names mean."""
 
-    def __init__(self, files, read=Text):
-        self.files, self.read = dict(files), read
+    def __init__(self, files, read=Text, facts=wide_model.facts):
+        self.files, self.read, self.facts = dict(files), read, facts
         self.texts = {}
         self.closures = {}
 
@@ -124,10 +167,10 @@ class Tree:
 
     @functools.cached_property
     def defined(self):
-        """All definitions with prototypes, by name, each list by file and place."""
+        """All definitions, by name, each list by file and place."""
         found: dict = {}
         for file, text in sorted(self.files.items()):
-            for one in wide_model.facts(text).definitions:
+            for one in self.facts(text).definitions:
                 found.setdefault(one.name, []).append(
                     Found(file, one.place, one.kind, one.name, one.local)
                 )
@@ -312,8 +355,7 @@ class Tree:
         """The definitions of macros, by name."""
         found: dict = {}
         for file in sorted(self.files):
-            text = self.text(file)
-            for line, stream in text.directives:
+            for line, stream in self.text(file).directives:
                 if line.own_word != b"define" or not stream.is_name(2):
                     continue
                 parameters, first = frozenset(), 3
@@ -324,70 +366,34 @@ class Tree:
                         token.text for token in stream.tokens[4:last] if token.is_name
                     )
                     first = last + 1
-                tokens = stream.tokens[first:]
-                spaces = [text.spaces.get(token.place) for token in tokens]
-                found.setdefault(stream.text(2), []).append(Macro(parameters, tokens, spaces))
+                text = Stream(self.files[file], stream.tokens[first:])
+                found.setdefault(stream.text(2), []).append(Macro(parameters, text))
         return found
 
-    def reaching(self, name):
-        """The macros that reach a name; a round that is one too many refuses a rename."""
+    def met(self, name):
+        """The definitions of a macro and of all that their texts lead to, and whether there can be
+        more: the last round still finds one."""
+        met, last = {name}, {name}
+        for _ in range(MOST_ROUNDS):
+            named = {other for one in last for macro in self.macros[one] for other in macro.named}
+            last = named & self.macros.keys() - met
+            met |= last
+        return [macro for one in met for macro in self.macros[one]], bool(last)
 
-        def has(one, other):
-            return any(
-                token.text == other and space not in ("macro parameter", "member", "tag")
-                for token, space in zip(one.tokens, one.spaces)
-            )
+    def reaches(self, name, wanted):
+        """Whether a name is that of a macro that reaches one of these names, or may do so."""
+        if name not in self.macros:
+            return False
+        macros, is_cut = self.met(name)
+        return is_cut or any(macro.has(one) for macro in macros for one in wanted)
 
-        def names(one):
-            return {
-                token.text
-                for token, space in zip(one.tokens, one.spaces)
-                if token.is_name and space != "macro parameter"
-            }
-
-        def found_by(found, macro):
-            return any(has(one, name) or names(one) & found for one in self.macros[macro])
-
-        return self.least(found_by)
-
-    @functools.cached_property
-    def strange(self):
-        """The macros whose arguments can become something else than what they are."""
-
-        def is_strange(found, macro):
-            return any(self.makes_strange(one, found) for one in self.macros[macro])
-
-        return self.least(is_strange) | STRANGE
-
-    def makes_strange(self, macro, found):
-        """Whether the text of a macro makes it strange."""
-        tokens = macro.tokens
-        for index, token in enumerate(tokens):
-            if token.text == b"#" or (token.is_name and token.text in found | STRANGE):
-                return True
-            if not token.is_name or token.text not in macro.parameters:
-                continue
-            before = tokens[index - 1].text if index else b""
-            after = tokens[index + 1].text if index + 1 < len(tokens) else b""
-            is_arrow = (
-                index > 1
-                and before == b">"
-                and tokens[index - 2].text == b"-"
-                and tokens[index - 2].end == tokens[index - 1].place
-            )
-            if before in (b".", b"struct", b"union", b"enum", b"goto") or after == b":" or is_arrow:
-                return True
-        return False
-
-    def least(self, belongs):
-        """The least set of macros, in rounds over all of them."""
-        found: set = set()
-        for number in range(MOST_ROUNDS):
-            more = {one for one in self.macros if one not in found and belongs(found, one)}
-            found |= more
-            if not more:
-                return frozenset(found)
-        raise Refusal(b"used in a macro: " + min(more))
+    def is_strange(self, name):
+        """Whether a name is that of a macro whose arguments can become something else than what
+        they are."""
+        if name in STRANGE or name not in self.macros:
+            return name in STRANGE
+        macros, is_cut = self.met(name)
+        return is_cut or any(macro.is_strange for macro in macros)
 
     # ---- rename
 
@@ -431,7 +437,7 @@ class Tree:
         start, end = self.range_of(text, thing)
         code = [token for token in text.code.tokens if start <= token.place < end and token.is_word]
         return code, [
-            (line, token)
+            token
             for line, _ in text.directives
             for token in line.tokens
             if start <= token.place < end and token.is_word
@@ -453,7 +459,7 @@ class Tree:
         """Whether a new name is used where the thing is."""
         if isinstance(thing, Thing):
             code, directives = self.words_of(self.text(file), thing)
-            return any(one.text == new for one in code + [it for _, it in directives])
+            return any(one.text == new for one in code + directives)
         return any(new in self.text(one).named for one in self.files)
 
     def is_taken(self, thing, new):
@@ -470,13 +476,15 @@ class Tree:
         return bool(self.of_kinds(old, b"t") or self.of_kinds(new, b"t"))
 
     def refuse_macros(self, file, thing, new):
-        """A local and a label: no macro that the function names reaches the old or new name."""
-        code, directives = self.words_of(self.text(file), thing)
-        reaching = self.reaching(thing.name) | self.reaching(new)
+        """A local and a label: no macro that the function names reaches the old or new name, and
+        all places of the old name are in its code."""
+        text = self.text(file)
+        code, directives = self.words_of(text, thing)
         for token in code:
-            if token.text in reaching:
+            if self.reaches(token.text, (thing.name, new)):
                 raise Refusal(b"used in a macro: " + token.text)
-        if any(token.text == thing.name for _, token in directives):
+        beside = [token for token in code if token.place in text.left_out]
+        if any(token.text == thing.name for token in beside + directives):
             raise Refusal(b"used in a macro: " + thing.name)
 
     def refuse_arguments(self, thing, places):
@@ -485,18 +493,21 @@ class Tree:
             text = self.text(file)
             if isinstance(thing, NameOfFile):
                 uses = [token.place for token in text.named.get(thing.name, [])]
-            for use in uses:
-                stream, index = text.stream_at(use)
-                is_list = thing.space == "macro parameter"
-                around = stream.around[index]
-                while around >= 0:
-                    is_macro = stream.is_name(around - 1) and not (is_list and around == 3)
-                    if stream.text(around) == b"(" and stream.pair[around] >= 0 and is_macro:
-                        if stream.text(around - 1) in self.strange:
-                            raise Refusal(
-                                b"in the arguments of a macro: " + stream.text(around - 1)
-                            )
-                    around = stream.around[around]
+            called = {it for use in uses for it in self.called_around(text, use, thing)}
+            for token in sorted(called, key=lambda it: it.place):
+                if self.is_strange(token.text):
+                    raise Refusal(b"in the arguments of a macro: " + token.text)
+
+    def called_around(self, text, use, thing):
+        """The names that stand directly before a pair of parentheses around a use."""
+        stream, index = text.stream_at(use)
+        around = stream.around[index]
+        while around >= 0:
+            is_list = thing.space == "macro parameter" and around == 3
+            is_called = stream.text(around) == b"(" and stream.pair[around] >= 0 and not is_list
+            if is_called and stream.is_name(around - 1):
+                yield stream.tokens[around - 1]
+            around = stream.around[around]
 
     def refuse_outside(self, file, thing):
         """No text that is included in the function uses it; no other file has a private one."""
