@@ -5,11 +5,12 @@
     verify/models/random-renames.py --first 4711 --texts 1 --drawn     one that is drawn
 
 Text number n has the seed n. It is one of the C files below FOLDER, as it stands or with up to nine
-random edits (brackets, `;`, `for (`, `goto`, `#if`, names), or it is drawn as a whole. In each some
-locals, labels and parameters of macros get another name: one that is new, or one of the text. Each
-rename that is accepted is made. Then the new text has to have the same pieces but for the names of
-those that were edited; and each name has to have its space and its letter as before, and be bound
-to what it was bound to, with the places moved.
+random edits (brackets, `;`, `for (`, `goto`, `#if`, names), or it is drawn as a whole. Half of the
+texts are read within the limits of the program. In each some locals, labels and parameters of
+macros get another name: one that is new, or one of the text. Each rename that is accepted is made.
+Then the new text has to have the same pieces but for the names of those that were edited; and each
+name has to have its space and its letter as before, and be bound to what it was bound to, with the
+places moved.
 
 At the first wrong rename the seed and the texts are shown and the exit status is 1. Else lines tell
 how many renames were accepted, and how often each reason refused one.
@@ -25,6 +26,8 @@ import random
 import sys
 
 from draw_names import EDITS, DrawNames
+from draw_renames import DrawRenames
+from locals_model import Names
 from names_model import Text
 from reach_model import Refusal, Tree, renamed
 from text_model import PIECE
@@ -142,13 +145,14 @@ def main() -> int:
     counts: collections.Counter = collections.Counter()
     for seed in range(given.first, given.first + given.texts):
         draw = random.Random(f"renames {seed}")
+        read = draw.choice([Text, Names])
         if given.drawn:
-            text = DrawNames(seed).text()
+            text = draw.choice([DrawNames, DrawRenames])(seed).text()
         else:
             text = (given.sources / draw.choice(files)).read_bytes()
             text = edited(text, draw) if draw.random() < 0.5 else text
         try:
-            counts.update(tried(text, draw, given.renames))
+            counts.update(tried(text, draw, given.renames, read))
         except Difference as difference:
             print(f"the text of seed {seed}: {difference.args[0]}")
             return 1
