@@ -19,7 +19,6 @@ how many renames were accepted, and how often each reason refused one.
 from __future__ import annotations
 
 import argparse
-import bisect
 import collections
 import pathlib
 import random
@@ -29,8 +28,8 @@ from draw_names import EDITS, DrawNames
 from draw_renames import DrawRenames
 from locals_model import Names
 from names_model import Text
-from reach_model import Refusal, Tree, renamed
-from text_model import PIECE
+from reach_model import Refusal, Tree
+from rename_law import Difference, check
 
 HERE = pathlib.Path(__file__).resolve().parent
 sys.path.insert(0, str(HERE.parent))
@@ -38,58 +37,6 @@ from shared import c_files  # noqa: E402
 
 FILE = b"a.c"
 LARGEST = 60_000  # bytes of a real text
-
-
-def pieces(text):
-    return [found[0] for found in PIECE.finditer(text)]
-
-
-class Difference(Exception):
-    """A rename that changed what a name means."""
-
-
-def described(text, moved):
-    """What each name of a text is, with places moved: name, space, binding, definition, letter."""
-    told = []
-    for token in text.tokens:
-        thing, found = text.binding(token.place), text.definition(token.place)
-        bounds = thing.start, thing.end
-        told.append(
-            (
-                moved(token.place),
-                text.space(token.place),
-                thing.kind,
-                tuple(moved(one) if one >= 0 else one for one in bounds),
-                None if found is None else moved(found),
-                text.letter(token.place),
-            )
-        )
-    return told
-
-
-def check(old, places, name, new, read=Text):
-    """Compares a text with the one that a rename makes of it."""
-    made = renamed(old.text, places, name, new)
-    places, more = sorted(places), len(new) - len(name)
-
-    def moved(place):
-        return place + more * bisect.bisect_left(places, place)
-
-    before, after = pieces(old.text), pieces(made)
-    at, edited, expected = 0, set(places), []
-    for piece in before:
-        expected.append(new if at in edited else piece)
-        at += len(piece)
-    if expected != after:
-        raise Difference("the pieces differ", made)
-    text = read(made)
-    one, other = described(old, moved), described(text, lambda place: place)
-    if one != other:
-        number = next(
-            (n for n, pair in enumerate(zip(one, other)) if pair[0] != pair[1]),
-            min(len(one), len(other)),
-        )
-        raise Difference(f"{one[number:][:1]} is now {other[number:][:1]}", made)
 
 
 def edited(text, draw):

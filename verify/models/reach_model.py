@@ -544,12 +544,3 @@ class Tree:
 
 def is_odd(byte):
     return bool(byte) and (byte in b"$@\"'" or byte[0] >= 0x80)
-
-
-def renamed(text, places, name, new):
-    """A text with another name at these places."""
-    out, end = [], 0
-    for place in sorted(places):
-        out += [text[end:place], new]
-        end = place + len(name)
-    return b"".join([*out, text[end:]])
