@@ -72,8 +72,8 @@ class DrawRenames(DrawNames):
 
     def tidy_text(self) -> bytes:
         """A text of plain functions; in most are a few things that can hinder a rename."""
-        kinds = self.chain, self.macro, self.tangle, self.strange, self.strange, self.other
-        lines = [self.one(*kinds)() for _ in range(self.one(0, 1, 1, 2, 3))]
+        kinds = self.chain, self.macro, self.tangle, self.other, *[self.strange] * 4
+        lines = [self.one(*kinds)() for _ in range(self.one(0, 1, 1, 2, 3, 4))]
         for number in range(self.one(1, 1, 2, 3)):
             made = [self.one(*PLAIN) for _ in range(self.one(1, 2, 3, 5, 8))]
             for _ in range(self.one(0, 0, 1, 1, 1, 2, 3)):
@@ -89,8 +89,16 @@ class DrawRenames(DrawNames):
         return ("\n".join(lines) + self.one("", "\n")).encode()
 
     def hindrance(self):
-        kinds = [self.called] * 6 + [self.odd] * 2 + [self.directive, self.attribute]
+        kinds = [self.called] * 5 + [self.nested] * 2 + [self.odd] * 2
+        kinds += [self.directive, self.attribute]
         return self.one(*kinds)()
+
+    def nested(self):
+        """Macros in the arguments of macros, with a local."""
+        inner = self.one("a", "b", "a, 1", "b, a", "1, c")
+        for _ in range(self.one(1, 2, 2, 3)):
+            inner = self.one("", "", "1, ") + f"{self.one(*MACROS)}({inner})"
+        return f"{inner};"
 
     def odd(self):
         return f"{self.one(*ODD)};"

@@ -6,7 +6,7 @@
 from __future__ import annotations
 
 from names_model import PARTNER, Scope, Text, Thing
-from reach_model import Tree
+from reach_model import STRANGE, Macro, Refusal, Tree
 from wide_model import name_of
 
 
@@ -379,4 +379,182 @@ PLANTS = [
     LoopDeclares, TypeofNames, OldListAlone, OuterDefinition, EnumeratorsOfFile, TagsOfFile,
     ComparedIsWritten, AndIsAddress, PointedIsWritten, MemberIsWritten, BracketsByDepth,
     MacroReachesNothing, StrangeIsPlain, UsedInBlock, IncludedIsLost, PrivateFirst,
+]  # fmt: skip
+
+
+# ---- renames of locals
+
+
+class OneRoundLess(Tree):
+    """A macro is followed in 15 rounds."""
+
+    most_rounds = 15
+
+
+class OneRoundMore(Tree):
+    """A macro is followed in 17 rounds."""
+
+    most_rounds = 17
+
+
+class FirstTextAlone(Tree):
+    """Of several definitions of a macro the first one counts."""
+
+    def met(self, name):
+        macros, is_cut = super().met(name)
+        return [it for it in macros if any(it is some[0] for some in self.macros.values())], is_cut
+
+
+class OwnTextAlone(Tree):
+    """The arguments of a macro are judged by its own text."""
+
+    def is_strange(self, name):
+        return name in STRANGE or any(it.is_strange for it in self.macros.get(name, []))
+
+
+class LongChainsReachNothing(Tree):
+    """A macro that leads to too many others is taken for one that reaches nothing."""
+
+    def met(self, name):
+        return super().met(name)[0], False
+
+
+class AttributeIsForgotten(Tree):
+    """A place in an attribute that is left out is no reason."""
+
+    def words_of(self, text, thing):
+        code, directives = super().words_of(text, thing)
+        return [it for it in code if it.place not in text.left_out], directives
+
+
+class DirectiveIsForgotten(Tree):
+    """A place in a directive is no reason."""
+
+    def words_of(self, text, thing):
+        return super().words_of(text, thing)[0], []
+
+
+class HeadIsForgotten(Tree):
+    """A function begins with its body."""
+
+    def range_of(self, text, thing):
+        start, end = super().range_of(text, thing)
+        braces = [text.code.tokens[it.brace].place for it in text.functions]
+        return next((it for it in braces if start < it < end), start), end
+
+
+class InnermostMacro(Tree):
+    """Of the macros around a use the innermost one is reported."""
+
+    def refuse_arguments(self, thing, places):
+        for file, uses in places.items():
+            for use in uses:
+                for token in self.called_around(self.text(file), use, thing):
+                    if self.is_strange(token.text):
+                        raise Refusal(b"in the arguments of a macro: " + token.text)
+
+
+class LastMacro(Tree):
+    """Of the macros that reach a name the last one is reported."""
+
+    def words_of(self, text, thing):
+        code, directives = super().words_of(text, thing)
+        return code[::-1], directives
+
+
+class ArgumentsFirst(Tree):
+    """What stands in the arguments of a macro comes before what it reaches."""
+
+    def refuse_macros(self, file, thing, new):
+        self.refuse_arguments(thing, {file: [it for it, _ in self.text(file).uses(thing)]})
+        super().refuse_macros(file, thing, new)
+
+
+class OldMayBeType(Tree):
+    """A typedef may have the old name."""
+
+    def is_taken(self, thing, new):
+        return new in self.macros or thing.name in self.macros or bool(self.of_kinds(new, b"t"))
+
+
+class OneSideIsOdd(Tree):
+    """The byte before a name is not looked at."""
+
+    def refuse_odd(self, file, uses, name):
+        text = self.files[file]
+        self.files[file] = b"".join(
+            b" " if place + 1 in uses else text[place : place + 1] for place in range(len(text))
+        )
+        try:
+            super().refuse_odd(file, uses, name)
+        finally:
+            self.files[file] = text
+
+
+class MembersCount(Macro):
+    """A member in the text of a macro is reached."""
+
+    def is_apart(self, index):
+        return self.text.text(index - 1) in (b"struct", b"union", b"enum")
+
+
+class TagsCount(Macro):
+    """A tag in the text of a macro is reached."""
+
+    def is_apart(self, index):
+        is_tag = self.text.text(index - 1) in (b"struct", b"union", b"enum")
+        return super().is_apart(index) and not is_tag
+
+
+class DesignatorIsMember(Macro):
+    """Each name behind a `.` in the text of a macro is a member."""
+
+    def is_apart(self, index):
+        return super().is_apart(index) or self.text.is_dot(index - 1)
+
+
+class ParametersCount(Macro):
+    """A parameter of a macro is a name of its text."""
+
+    @property
+    def named(self):
+        return {token.text for token in self.text.tokens if token.is_name}
+
+
+class PastedIsPlain(Macro):
+    """`##` makes nothing strange."""
+
+    @property
+    def is_strange(self):
+        tokens = self.text.tokens
+        texts = [token.text for token in tokens]
+        pairs = [it for it in range(len(tokens)) if texts[it : it + 2] == [b"#", b"#"]]
+        left = {it + more for it in pairs for more in (0, 1)}
+        return any(
+            (token.text == b"#" and index not in left)
+            or token.text in STRANGE
+            or self.is_strange_at(index)
+            for index, token in enumerate(tokens)
+        )
+
+
+class ArgumentsStay(Macro):
+    """A parameter that becomes a member, a tag or a label makes nothing strange."""
+
+    def is_strange_at(self, index):
+        return False
+
+
+def with_macros(macro):
+    """A tree with other macros."""
+    return type(macro.__name__, (Tree,), {"macro_of": macro})
+
+
+RENAME_PLANTS = [
+    MacroReachesNothing, StrangeIsPlain, IncludedIsLost, OneRoundLess, OneRoundMore, FirstTextAlone,
+    OwnTextAlone, LongChainsReachNothing, AttributeIsForgotten, DirectiveIsForgotten,
+    HeadIsForgotten, InnermostMacro, LastMacro, ArgumentsFirst, OldMayBeType, OneSideIsOdd,
+    *map(with_macros, [
+        MembersCount, TagsCount, DesignatorIsMember, ParametersCount, PastedIsPlain, ArgumentsStay,
+    ]),
 ]  # fmt: skip

@@ -4,6 +4,7 @@
     make && verify/models/random-editors.py
     verify/models/random-editors.py --cbrowse PATH --sessions 1000 -j 2
     verify/models/random-editors.py --first 4711 --sessions 1      one, by its seed
+    verify/models/random-editors.py --self-test                    wrong rules have to be found
 
 Session number n has the seed n. It has files of the command line or none, a profile, bounds and a
 root, and then 3 to 60 messages, more often those that do something where the session stands:
@@ -26,7 +27,9 @@ in random pieces. Standard output, standard error and the status are compared wi
 `server_model.py`.
 
 At the first difference the seed, the input and both outputs are shown and the exit status is 1.
-Else lines tell how often each message was sent and each reply came.
+Else lines tell how often each message was sent and each reply came. The self-test puts each wrong
+rule for renames of `names_plants.py` in the place of the right one, and tells how many sessions it
+takes to see the difference.
 """
 
 from __future__ import annotations
@@ -50,6 +53,8 @@ from draw import Draw
 from draw_names import DrawNames
 from draw_renames import DrawRenames
 from locals_model import locals_of
+from names_plants import RENAME_PLANTS
+from reach_model import Tree
 from server_model import MOST_BODY, Ended, Outcome, Server, frame, name_of_operand
 from server_model import place_of, position_of, serve
 from session_model import Bounds, Refused, load
@@ -927,13 +932,18 @@ def compare(cbrowse: str, seed: int) -> tuple[collections.Counter, collections.C
         return compare_in(home, cbrowse, seed)
 
 
+def expected(session: Session) -> Outcome:
+    """What the model writes in a session."""
+    operands = [(name.encode(), text) for name, text in session.files.items()]
+    how = {**session.how, "disk": session.how["disk"].copy()}
+    return serve(operands, session.data, session.writes, **how)
+
+
 def compare_in(home: str, cbrowse: str, seed: int):
     session = Editor(seed, home).session()
-    operands = [(name.encode(), text) for name, text in session.files.items()]
-    expected = serve(operands, session.data, session.writes, **session.how)
-    found = run(cbrowse, session, random.Random(seed))
-    if found != expected:
-        same = len(os.path.commonprefix([found.out, expected.out]))
+    meant, found = expected(session), run(cbrowse, session, random.Random(seed))
+    if found != meant:
+        same = len(os.path.commonprefix([found.out, meant.out]))
         start = max(same - 300, 0)
         shown = re.sub(rb"x{100,}", lambda it: b"(%d of x)" % len(it[0]), session.data)
         raise Difference(
@@ -945,8 +955,8 @@ def compare_in(home: str, cbrowse: str, seed: int):
                     *(f"written: {write}" for write in session.writes),
                     f"words: {session.words!r}",
                     f"input: {shown[:60_000]!r}",
-                    f"expected, from byte {start} on: {expected.out[start:start + 1500]!r}"
-                    f" {expected[1:]}",
+                    f"expected, from byte {start} on: {meant.out[start:start + 1500]!r}"
+                    f" {meant[1:]}",
                     f"found: {found.out[start:start + 1500]!r} {found[1:]}",
                     f"the first other byte is number {same}",
                 ]
@@ -956,12 +966,12 @@ def compare_in(home: str, cbrowse: str, seed: int):
     sent = collections.Counter(it.replace(b"\\/", b"/") or b"none" for it in methods)
     kinds = rb'"(?:message|result)":("[^"]{0,40}|null|\[\]|\[|\{"[A-Za-z]+")'
     out, error = (
-        re.sub(rb"cbrowse: \S+:", b"cbrowse: NAME:", it) for it in (expected.out, expected.error)
+        re.sub(rb"cbrowse: \S+:", b"cbrowse: NAME:", it) for it in (meant.out, meant.error)
     )
     came = re.sub(REFUSED_FOR, rb"\1: NAME", out)
     told = collections.Counter(re.findall(kinds, came))
     told.update(re.findall(rb'\}\},"(kind":[123])\}', came))
-    told[b"status %d %s" % (expected.status, error.strip())] += 1
+    told[b"status %d %s" % (meant.status, error.strip())] += 1
     return sent, told
 
 
@@ -977,6 +987,26 @@ def batch(cbrowse: str, first: int, number: int):
     return None, sent, told
 
 
+def self_test(first: int, number: int) -> int:
+    """Looks for the first session that tells each wrong rule of renames from the right one."""
+    left = [*RENAME_PLANTS]
+    for seed in range(first, first + number):
+        with tempfile.TemporaryDirectory() as home:
+            session = Editor(seed, home).session()
+        right = expected(session)
+        for plant in [*left]:
+            Server.tree_of = plant
+            if expected(session) != right:
+                print(f"{plant.__name__}: session {seed - first + 1}, of seed {seed}", flush=True)
+                left.remove(plant)
+        Server.tree_of = Tree
+        if not left:
+            break
+    for plant in left:
+        print(f"FAILED: {plant.__name__} is not found in {number} sessions")
+    return 1 if left else 0
+
+
 def main() -> None:
     parser = options(__doc__)
     parser.add_argument(
@@ -988,6 +1018,10 @@ def main() -> None:
     parser.add_argument(
         "-j", dest="workers", type=int, default=2, help="how many at once, 2 by default"
     )
+    parser.add_argument("--self-test", action="store_true", help="wrong rules have to be found")
+    if "--self-test" in sys.argv:
+        given = parser.parse_args()
+        raise SystemExit(self_test(given.first, given.sessions))
     given = words_given(parser)
     sent, told = collections.Counter(), collections.Counter()
     last = given.first + given.sessions

@@ -128,6 +128,9 @@ def resolved(path):
 class Tree:
     """A set of files, by name, and what their names mean."""
 
+    macro_of = Macro
+    most_rounds = MOST_ROUNDS
+
     def __init__(self, files, read=Text, facts=wide_model.facts):
         self.files, self.read, self.facts = dict(files), read, facts
         self.texts = {}
@@ -367,14 +370,14 @@ class Tree:
                     )
                     first = last + 1
                 text = Stream(self.files[file], stream.tokens[first:])
-                found.setdefault(stream.text(2), []).append(Macro(parameters, text))
+                found.setdefault(stream.text(2), []).append(self.macro_of(parameters, text))
         return found
 
     def met(self, name):
         """The definitions of a macro and of all that their texts lead to, and whether there can be
         more: the last round still finds one."""
         met, last = {name}, {name}
-        for _ in range(MOST_ROUNDS):
+        for _ in range(self.most_rounds):
             named = {other for one in last for macro in self.macros[one] for other in macro.named}
             last = named & self.macros.keys() - met
             met |= last

@@ -480,6 +480,8 @@ class Place(NamedTuple):
 class Server:
     """The state of a server, and what it has written."""
 
+    tree_of = Tree  # what renames locals
+
     def __init__(self, bounds=Bounds(), profile=b"", folder=None, disk=None):
         self.world, self.documents = World({}, bounds=bounds), {}
         self.disk = Disk() if disk is None else disk
@@ -924,7 +926,7 @@ class Server:
         return self.read_tree
 
     def make_tree(self, files):
-        return Tree(files, names_of, self.facts)
+        return self.tree_of(files, names_of, self.facts)
 
     def renamable(self, params):
         """The file of a request, its text, and the word at its place, if that may be renamed."""

@@ -13,7 +13,8 @@ model      what is answered is what the models of `verify/models` say. The edits
            each name has to mean what it meant, with its places moved.
 compiler   where gcc compiles the file alone, it writes the same assembly for the new text. Words
            behind `--` are for it and for libclang. Both look for `#include ".."` in all folders
-           with headers.
+           with headers. Where it does not, and a macro has to do with it that only a header of the
+           system defines, it is counted by itself: no one can know such a macro by the files.
 libclang   where it parses the file, it takes each place that is edited for the same variable, and
            misses none. A place that it does not see has to be in lines that are passed over, or in
            the arguments of a macro.
@@ -157,21 +158,32 @@ class Compiler:
     """gcc over single files of a folder."""
 
     def __init__(self, folder: pathlib.Path, words: list[str]):
-        self.folder, self.words, self.known = folder, words, {}
+        self.folder, self.words = folder, words
+        self.known: dict[str, Optional[bytes]] = {}
+        self.defined: dict[str, set[bytes]] = {}
+
+    def words_for(self, name: str) -> list[str]:
+        place = str(pathlib.Path(name).parent)
+        return ["gcc", "-O1", "-g0", "-w", "-x", "c", "-iquote", place, *self.words]
 
     def assembly(self, name: str, text: bytes) -> Optional[bytes]:
         """What it writes for a text in the place of a file, or none."""
-        place = str(pathlib.Path(name).parent)
-        words = ["gcc", "-O1", "-S", "-g0", "-w", "-x", "c", "-iquote", place, *self.words]
+        words = [*self.words_for(name), "-S", "-o", "-", "-"]
+        how = {"cwd": self.folder, "input": text, "timeout": PATIENCE}
         try:
             # the name of the file is that of standard input, before and after
-            done = subprocess.run(
-                [*words, "-o", "-", "-"],
-                cwd=self.folder, input=text, capture_output=True, timeout=PATIENCE,
-            )  # fmt: skip
+            done = subprocess.run(words, capture_output=True, **how)
         except subprocess.TimeoutExpired:
             return None
         return done.stdout if done.returncode == 0 else None
+
+    def macros(self, name: str, text: bytes) -> set[bytes]:
+        """The macros that are defined at the end of a file."""
+        if name not in self.defined:
+            words = [*self.words_for(name), "-E", "-dM", "-"]
+            done = subprocess.run(words, cwd=self.folder, input=text, capture_output=True)
+            self.defined[name] = {*re.findall(rb"^#define (\w+)", done.stdout, re.MULTILINE)}
+        return self.defined[name]
 
     def is_same(
         self, name: str, text: bytes, made: bytes, old: bytes, new: bytes
@@ -222,7 +234,9 @@ class Parsed:
                 continue
             place, meant = self.place_of(one), self.place_of(named)
             spelling = named.spelling.encode()
-            if meant is not None and self.text[place : place + len(spelling)] == spelling:
+            if None in (place, meant):
+                continue  # it is in another file
+            if self.text[place : place + len(spelling)] == spelling:
                 self.named[place] = meant
 
     def with_arguments(self, extent) -> tuple[int, int]:
@@ -363,8 +377,24 @@ class Folder:
             is_same = self.compiler.is_same(name, self.texts[name], made, old, new)
             if is_same is not None:
                 self.counts["accepted, in a file that gcc compiles"] += 1
-                if not is_same:
+                if not is_same and self.is_of_system(name, places, new):
+                    self.counts["accepted, and compiled otherwise by macros of no file"] += 1
+                elif not is_same:
                     yield "gcc writes another assembly"
+
+    def is_of_system(self, name: str, places: list[int], new: bytes) -> bool:
+        """Whether the new name is a macro that no file of the folder defines, or a place is in the
+        arguments of one."""
+        text = names_of(self.texts[name])
+        things = {text.binding(it) for it in places}
+        called = {
+            token.text
+            for thing in things
+            for it in places
+            for token in self.model.tree.called_around(text, it, thing)
+        }
+        macros = self.compiler.macros(name, self.texts[name]) - self.model.tree.macros.keys()
+        return not macros.isdisjoint({new, *called})
 
     def beside_clang(self, name: str, places: list[int], old: bytes):
         if not name.endswith(".c"):
