@@ -263,14 +263,6 @@ class Text:
             found.update(token.place for token in tokens[first : last + 1])
         return found
 
-    def is_list(self, thing):
-        """Whether the scope of a thing is a list of parameters that is not of a function."""
-        return thing.kind == "local" and thing.start in self.starts_of_lists
-
-    @functools.cached_property
-    def starts_of_lists(self):
-        return {self.code.tokens[one.first].place for one in self.scopes if one.kind == "list"}
-
     def token_at(self, place):
         """The name that holds a place or ends at it, or none."""
         number = bisect.bisect_right(self.places, place) - 1

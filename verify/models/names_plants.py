@@ -6,6 +6,8 @@ which are of renames of locals.
 
 from __future__ import annotations
 
+import functools
+
 from names_model import PARTNER, Scope, Text, Thing
 from reach_model import STRANGE, Macro, Refusal, Tree
 from wide_model import name_of
@@ -401,38 +403,49 @@ class OneRoundMore(Tree):
 class FirstTextAlone(Tree):
     """Of several definitions of a macro the first one counts."""
 
-    def met(self, name):
-        macros, is_cut = super().met(name)
-        return [it for it in macros if any(it is some[0] for some in self.macros.values())], is_cut
+    @functools.cached_property
+    def macros(self):
+        return {name: some[:1] for name, some in super().macros.items()}
 
 
 class OwnTextAlone(Tree):
     """The arguments of a macro are judged by its own text."""
 
-    def is_strange(self, name):
-        return name in STRANGE or any(it.is_strange for it in self.macros.get(name, []))
+    def strange(self, names):
+        macros = self.macros
+        for name in names:
+            if name in STRANGE or any(it.is_strange for it in macros.get(name, [])):
+                return name
+        return None
 
 
 class LongChainsReachNothing(Tree):
     """A macro that leads to too many others is taken for one that reaches nothing."""
 
-    def met(self, name):
-        return super().met(name)[0], False
+    def met(self, names):
+        return super().met(names)[0], {}
+
+
+class NameByName(Tree):
+    """The macros of one name are followed to their end before those of the next."""
+
+    def leading(self, names, is_sought):
+        found = (super(NameByName, self).leading([name], is_sought) for name in names)
+        return next((it for it in found if it is not None), None)
 
 
 class AttributeIsForgotten(Tree):
     """A place in an attribute that is left out is no reason."""
 
-    def words_of(self, text, thing):
-        code, directives = super().words_of(text, thing)
-        return [it for it in code if it.place not in text.left_out], directives
+    def is_left_out(self, text, token):
+        return False
 
 
 class DirectiveIsForgotten(Tree):
     """A place in a directive is no reason."""
 
-    def words_of(self, text, thing):
-        return super().words_of(text, thing)[0], []
+    def names_of(self, text, thing):
+        return [it for it in super().names_of(text, thing) if it.place in text.index]
 
 
 class HeadIsForgotten(Tree):
@@ -447,20 +460,26 @@ class HeadIsForgotten(Tree):
 class InnermostMacro(Tree):
     """Of the macros around a use the innermost one is reported."""
 
-    def refuse_arguments(self, thing, places):
-        for file, uses in places.items():
-            for use in uses:
-                for token in self.called_around(self.text(file), use, thing):
-                    if self.is_strange(token.text):
-                        raise Refusal(b"in the arguments of a macro: " + token.text)
+    def strange(self, names):
+        return super().strange(names[::-1])
+
+
+class MembersAreTaken(Tree):
+    """What takes a member does not come before other macros."""
+
+    def strange(self, names):
+        for name in names:
+            found = super().strange([name])
+            if found is not None:
+                return found
+        return None
 
 
 class LastMacro(Tree):
     """Of the macros that reach a name the last one is reported."""
 
-    def words_of(self, text, thing):
-        code, directives = super().words_of(text, thing)
-        return code[::-1], directives
+    def names_of(self, text, thing):
+        return super().names_of(text, thing)[::-1]
 
 
 class ArgumentsFirst(Tree):
@@ -518,8 +537,8 @@ class ParametersCount(Macro):
     """A parameter of a macro is a name of its text."""
 
     @property
-    def named(self):
-        return {token.text for token in self.text.tokens if token.is_name}
+    def names(self):
+        return [token.text for token in self.text.tokens if token.is_name]
 
 
 class PastedIsPlain(Macro):
@@ -553,8 +572,9 @@ def with_macros(macro):
 
 RENAME_PLANTS = [
     MacroReachesNothing, StrangeIsPlain, IncludedIsLost, OneRoundLess, OneRoundMore, FirstTextAlone,
-    OwnTextAlone, LongChainsReachNothing, AttributeIsForgotten, DirectiveIsForgotten,
-    HeadIsForgotten, InnermostMacro, LastMacro, ArgumentsFirst, OldMayBeType, OneSideIsOdd,
+    OwnTextAlone, LongChainsReachNothing, NameByName, AttributeIsForgotten, DirectiveIsForgotten,
+    HeadIsForgotten, InnermostMacro, MembersAreTaken, LastMacro, ArgumentsFirst, OldMayBeType,
+    OneSideIsOdd,
     *map(with_macros, [
         MembersCount, TagsCount, DesignatorIsMember, ParametersCount, PastedIsPlain, ArgumentsStay,
     ]),

@@ -5,12 +5,13 @@ alone.
 those that the asking file includes first, then in the nearest ones. A rename of a thing gives the
 places of its uses, or the reason why it is refused.
 
-The rules leave some things open, and are read so. Macros are followed forward, from a name that is
-one: in rounds, to those that the texts found so far name. The text of a macro is taken by itself: a
-name is a member there behind `->`, and behind a `.` that directly follows a name, `)` or `]`. Of
-macros with strange arguments the first by place refuses a rename. A place where the old name stands
-in an attribute that is left out refuses one as a place in a directive does. Of several reasons the
-first of the table counts.
+The rules leave some things open, and are read so. Macros are followed from the names of a function,
+in rounds, each once: to those that the texts found in the last round name. Of several macros that
+refuse a rename the one that is found first counts, and what is reported is the name of the function
+that led to it. The text of a macro is taken by itself: a name is a member there behind `->`, and
+behind a `.` that directly follows a name, `)` or `]`. A place where the old name stands in an
+attribute that is left out refuses a rename as a place in a directive does. Of several reasons the
+first of the table counts; a file outside the root is one that is not open.
 """
 
 from __future__ import annotations
@@ -60,16 +61,16 @@ class Macro(NamedTuple):
     text: Stream
 
     @property
-    def named(self):
-        """The names of the text that are no parameters."""
-        names = {token.text for token in self.text.tokens if token.is_name}
-        return names - self.parameters
+    def names(self):
+        """The names of the text that are no parameters, by place."""
+        names = [token.text for token in self.text.tokens if token.is_name]
+        return [name for name in names if name not in self.parameters]
 
-    def has(self, name):
-        """Whether the text has a name that is no parameter, and there neither a member nor a
-        tag."""
-        return name in self.named and any(
-            token.text == name and not self.is_apart(index)
+    def has(self, *wanted):
+        """Whether the text has one of some names that is no parameter, and neither a member nor a
+        tag there."""
+        return any(
+            token.text in wanted and token.text in self.names and not self.is_apart(index)
             for index, token in enumerate(self.text.tokens)
         )
 
@@ -373,30 +374,32 @@ class Tree:
                 found.setdefault(stream.text(2), []).append(self.macro_of(parameters, text))
         return found
 
-    def met(self, name):
-        """The definitions of a macro and of all that their texts lead to, and whether there can be
-        more: the last round still finds one."""
-        met, last = {name}, {name}
+    def met(self, names):
+        """The macros that some names lead to, in the order in which they are found, each with the
+        name that led to it; and those of the last round."""
+        found: dict = {name: name for name in names if name in self.macros}
+        last = found
         for _ in range(self.most_rounds):
-            named = {other for one in last for macro in self.macros[one] for other in macro.named}
-            last = named & self.macros.keys() - met
-            met |= last
-        return [macro for one in met for macro in self.macros[one]], bool(last)
+            more: dict = {}
+            for one, through in last.items():
+                for name in self.named_by(one):
+                    if name in self.macros and name not in found:
+                        more.setdefault(name, through)
+            found, last = {**found, **more}, more
+        return found, last
 
-    def reaches(self, name, wanted):
-        """Whether a name is that of a macro that reaches one of these names, or may do so."""
-        if name not in self.macros:
-            return False
-        macros, is_cut = self.met(name)
-        return is_cut or any(macro.has(one) for macro in macros for one in wanted)
+    def named_by(self, name):
+        """The names that the texts of a macro name, by file and place."""
+        return [it for macro in self.macros[name] for it in macro.names]
 
-    def is_strange(self, name):
-        """Whether a name is that of a macro whose arguments can become something else than what
-        they are."""
-        if name in STRANGE or name not in self.macros:
-            return name in STRANGE
-        macros, is_cut = self.met(name)
-        return is_cut or any(macro.is_strange for macro in macros)
+    def leading(self, names, is_sought):
+        """The first name that leads to a macro with a text that is sought; else, where the last
+        round still finds a macro, the name that led there."""
+        found, last = self.met(names)
+        for name, through in found.items():
+            if any(is_sought(macro) for macro in self.macros[name]):
+                return through
+        return next(iter(last.values()), None)
 
     # ---- rename
 
@@ -428,28 +431,22 @@ class Tree:
             if not is_counted_alike(self.files[one]):
                 raise Refusal(b"not text: " + one)
         for one in places:
-            if has_root and one.startswith(b"/"):
+            if has_root and one.startswith(b"/") and not is_bound:
                 raise Refusal(b"outside the root: " + one)
         for one in places:
             if not is_open(one):
                 raise Refusal(b"not open: " + one)
         return places
 
-    def words_of(self, text, thing):
-        """The words of the code in the range of a bound thing, and those of directives in it."""
+    def names_of(self, text, thing):
+        """The names in the range of a bound thing, those of directives too, by place."""
         start, end = self.range_of(text, thing)
-        code = [token for token in text.code.tokens if start <= token.place < end and token.is_word]
-        return code, [
-            token
-            for line, _ in text.directives
-            for token in line.tokens
-            if start <= token.place < end and token.is_word
-        ]
+        return [token for token in text.tokens if start <= token.place < end]
 
     def range_of(self, text, thing):
         """Where a new name may not stand: the function, the directive, or a list that is not in a
         function."""
-        if thing.kind == "parameter" or text.is_list(thing):
+        if thing.kind == "parameter":
             return thing.start, thing.end
         for function in text.functions:
             start = text.code.tokens[function.start].place
@@ -461,8 +458,7 @@ class Tree:
     def is_used(self, file, thing, new):
         """Whether a new name is used where the thing is."""
         if isinstance(thing, Thing):
-            code, directives = self.words_of(self.text(file), thing)
-            return any(one.text == new for one in code + directives)
+            return any(one.text == new for one in self.names_of(self.text(file), thing))
         return any(new in self.text(one).named for one in self.files)
 
     def is_taken(self, thing, new):
@@ -482,13 +478,21 @@ class Tree:
         """A local and a label: no macro that the function names reaches the old or new name, and
         all places of the old name are in its code."""
         text = self.text(file)
-        code, directives = self.words_of(text, thing)
-        for token in code:
-            if self.reaches(token.text, (thing.name, new)):
-                raise Refusal(b"used in a macro: " + token.text)
-        beside = [token for token in code if token.place in text.left_out]
-        if any(token.text == thing.name for token in beside + directives):
+        names = self.names_of(text, thing)
+        code = [token for token in names if token.place in text.index]
+        wanted = thing.name, new
+        through = self.leading([token.text for token in code], lambda it: it.has(*wanted))
+        if through is not None:
+            raise Refusal(b"used in a macro: " + through)
+        if any(
+            token.text == thing.name
+            and (token.place not in text.index or self.is_left_out(text, token))
+            for token in names
+        ):
             raise Refusal(b"used in a macro: " + thing.name)
+
+    def is_left_out(self, text, token):
+        return token.place in text.left_out
 
     def refuse_arguments(self, thing, places):
         """No use is an argument of a strange macro; of a name of the file no token of the name."""
@@ -497,9 +501,15 @@ class Tree:
             if isinstance(thing, NameOfFile):
                 uses = [token.place for token in text.named.get(thing.name, [])]
             called = {it for use in uses for it in self.called_around(text, use, thing)}
-            for token in sorted(called, key=lambda it: it.place):
-                if self.is_strange(token.text):
-                    raise Refusal(b"in the arguments of a macro: " + token.text)
+            through = self.strange([it.text for it in sorted(called, key=lambda it: it.place)])
+            if through is not None:
+                raise Refusal(b"in the arguments of a macro: " + through)
+
+    def strange(self, names):
+        """The first of some names whose arguments can become something else than what they are: one
+        that takes a member, or else one that leads to a strange text."""
+        taking = next((name for name in names if name in STRANGE), None)
+        return taking or self.leading(names, lambda it: it.is_strange)
 
     def called_around(self, text, use, thing):
         """The names that stand directly before a pair of parentheses around a use."""
@@ -508,8 +518,8 @@ class Tree:
         while around >= 0:
             is_list = thing.space == "macro parameter" and around == 3
             is_called = stream.text(around) == b"(" and stream.pair[around] >= 0 and not is_list
-            if is_called and stream.is_name(around - 1):
-                yield stream.tokens[around - 1]
+            if is_called and stream.is_name(stream.before(around)):
+                yield stream.tokens[stream.before(around)]
             around = stream.around[around]
 
     def refuse_outside(self, file, thing):
