@@ -309,6 +309,12 @@ class Text:
             last = len(code.tokens) - 1 if last is None else last
             yield Function(index, start, brace, last, is_old)
 
+    def range_of(self, function):
+        """Where a function begins and ends: one that is not closed ends with the text."""
+        last = self.split.first_after(function.brace, b"}", 1)
+        end = len(self.text) if last is None else self.code.tokens[last].end
+        return self.code.tokens[function.start].place, end
+
     def find_bodies(self):
         """Finds the bodies of structures and the like, and what is declared in them."""
         bare = Bare(self.split)

@@ -449,8 +449,7 @@ class Tree:
         if thing.kind == "parameter":
             return thing.start, thing.end
         for function in text.functions:
-            start = text.code.tokens[function.start].place
-            end = text.code.tokens[function.last].end
+            start, end = text.range_of(function)
             if start <= thing.start < end:
                 return start, end
         return thing.start, thing.end
