@@ -1,7 +1,7 @@
 """Wrong rules that a tired programmer could write, each in place of one of `names_model.py`.
 
-`random-names.py --self-test` has to find each, and `random-editors.py --self-test` those at the end,
-which are of renames of locals.
+`random-names.py --self-test` has to find each, and `random-editors.py --self-test` those at the
+end, which are of renames of locals.
 """
 
 from __future__ import annotations
