@@ -437,8 +437,41 @@ class NameByName(Tree):
 class AttributeIsForgotten(Tree):
     """A place in an attribute that is left out is no reason."""
 
-    def is_left_out(self, text, token):
-        return False
+    def is_unsure(self, text, token):
+        return token.place not in text.left_out and super().is_unsure(text, token)
+
+
+class EarlyEndIsForgotten(Tree):
+    """A function that ends early is renamed in as far as it is found."""
+
+    def is_whole(self, text, function):
+        return True
+
+
+class AllIsSure(Tree):
+    """Each place of the code is known for what it is."""
+
+    def is_unsure(self, text, token):
+        return token.place not in text.index or token.place in text.left_out
+
+
+class OutsideFirst(Tree):
+    """A function that is not all there refuses a rename before its macros do."""
+
+    def refuse_macros(self, file, thing, new):
+        self.refuse_unseen(file, thing)
+        super().refuse_macros(file, thing, new)
+
+
+class LabelStandsAlone(Tree):
+    """An argument that a macro takes for a label is no reason."""
+
+    def names_of(self, text, thing):
+        uses = text.used.get(thing, [])
+        names = super().names_of(text, thing)
+        return [
+            it for it in names if thing.kind != "label" or it.place in uses or it.text != thing.name
+        ]
 
 
 class DirectiveIsForgotten(Tree):
@@ -574,7 +607,7 @@ RENAME_PLANTS = [
     MacroReachesNothing, StrangeIsPlain, IncludedIsLost, OneRoundLess, OneRoundMore, FirstTextAlone,
     OwnTextAlone, LongChainsReachNothing, NameByName, AttributeIsForgotten, DirectiveIsForgotten,
     HeadIsForgotten, InnermostMacro, MembersAreTaken, LastMacro, ArgumentsFirst, OldMayBeType,
-    OneSideIsOdd,
+    OneSideIsOdd, EarlyEndIsForgotten, AllIsSure, OutsideFirst, LabelStandsAlone,
     *map(with_macros, [
         MembersCount, TagsCount, DesignatorIsMember, ParametersCount, PastedIsPlain, ArgumentsStay,
     ]),

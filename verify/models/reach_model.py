@@ -9,9 +9,9 @@ The rules leave some things open, and are read so. Macros are followed from the 
 in rounds, each once: to those that the texts found in the last round name. Of several macros that
 refuse a rename the one that is found first counts, and what is reported is the name of the function
 that led to it. The text of a macro is taken by itself: a name is a member there behind `->`, and
-behind a `.` that directly follows a name, `)` or `]`. A place where the old name stands in an
-attribute that is left out refuses a rename as a place in a directive does. Of several reasons the
-first of the table counts; a file outside the root is one that is not open.
+behind a `.` that directly follows a name, `)` or `]`. A rename is refused, too, where a function is
+not all there, or a place of the old name is not known for what it is. Of several reasons the first
+of the table counts; a file outside the root is one that is not open.
 """
 
 from __future__ import annotations
@@ -21,7 +21,7 @@ import re
 from typing import NamedTuple
 
 import wide_model
-from names_model import Stream, Text, Thing
+from names_model import HARD, Stream, Text, Thing
 from text_model import RESERVED, headers, is_counted_alike
 
 PRIVATE_KINDS = frozenset([b"d", b"t", b"s", b"u", b"g", b"e", b"m"])
@@ -85,9 +85,14 @@ class Macro(NamedTuple):
     def is_strange(self):
         """Whether an argument can become something else than what it is."""
         return any(
-            token.text == b"#" or token.text in STRANGE or self.is_strange_at(index)
+            self.is_hash(index) or token.text in STRANGE or self.is_strange_at(index)
             for index, token in enumerate(self.text.tokens)
         )
+
+    def is_hash(self, index):
+        """Whether a token is `#`, or begins `%:`, which is another way to write it."""
+        texts = self.text.text(index), self.text.text(index + 1)
+        return texts[0] == b"#" or texts == (b"%", b":")
 
     def is_strange_at(self, index):
         """Whether a parameter stands where no variable does."""
@@ -423,6 +428,7 @@ class Tree:
             raise Refusal(b"a macro or type has this name")
         if is_bound and thing.kind != "parameter":
             self.refuse_macros(file, thing, new)
+            self.refuse_unseen(file, thing)
         self.refuse_arguments(thing, places)
         self.refuse_outside(file, thing)
         for one, uses in places.items():
@@ -446,13 +452,16 @@ class Tree:
     def range_of(self, text, thing):
         """Where a new name may not stand: the function, the directive, or a list that is not in a
         function."""
-        if thing.kind == "parameter":
-            return thing.start, thing.end
+        function = self.function_of(text, thing)
+        return (thing.start, thing.end) if function is None else text.range_of(function)
+
+    def function_of(self, text, thing):
+        """The function that a local or a label is of, or none."""
         for function in text.functions:
             start, end = text.range_of(function)
-            if start <= thing.start < end:
-                return start, end
-        return thing.start, thing.end
+            if thing.kind != "parameter" and start <= thing.start < end:
+                return function
+        return None
 
     def is_used(self, file, thing, new):
         """Whether a new name is used where the thing is."""
@@ -474,24 +483,49 @@ class Tree:
         return bool(self.of_kinds(old, b"t") or self.of_kinds(new, b"t"))
 
     def refuse_macros(self, file, thing, new):
-        """A local and a label: no macro that the function names reaches the old or new name, and
-        all places of the old name are in its code."""
-        text = self.text(file)
-        names = self.names_of(text, thing)
-        code = [token for token in names if token.place in text.index]
-        wanted = thing.name, new
-        through = self.leading([token.text for token in code], lambda it: it.has(*wanted))
+        """A local and a label: no macro that the function names reaches the old or new name."""
+        text, wanted = self.text(file), (thing.name, new)
+        code = [it.text for it in self.names_of(text, thing) if it.place in text.index]
+        through = self.leading(code, lambda it: it.has(*wanted))
         if through is not None:
             raise Refusal(b"used in a macro: " + through)
-        if any(
-            token.text == thing.name
-            and (token.place not in text.index or self.is_left_out(text, token))
-            for token in names
-        ):
-            raise Refusal(b"used in a macro: " + thing.name)
 
-    def is_left_out(self, text, token):
-        return token.place in text.left_out
+    def refuse_unseen(self, file, thing):
+        """A local and a label: all of the function is there, all places of the old name are in its
+        code, and it is known what each of them is."""
+        text, function = self.text(file), self.function_of(self.text(file), thing)
+        if function is not None and not self.is_whole(text, function):
+            raise Refusal(b"used from outside: " + file)
+        for token in self.names_of(text, thing):
+            if token.text == thing.name and self.is_unsure(text, token):
+                raise Refusal(b"used in a macro: " + thing.name)
+
+    def is_whole(self, text, function):
+        """Whether a function ends with a brace that closes its body and nothing in it, has no word
+        of an attribute that is not left out, and no brace without a partner is between it and the
+        next one."""
+        tokens = text.code.tokens[function.start : function.last + 1]
+        own = Stream(text.text, [it for it in tokens if it.place not in text.left_out])
+        brace, last = own.tokens.index(text.code.tokens[function.brace]), own.size - 1
+        closed = [it for it in range(brace, last) if own.until.get(it) == last]
+        has_word = any(it.text in HARD for it in own.tokens)
+        behind = [it.name for it in text.functions if it.name > function.last]
+        until = range(function.last + 1, min(behind, default=text.code.size))
+        goes_on = any(text.code.text(it) == b"}" and text.code.pair[it] < 0 for it in until)
+        return own.text(last) == b"}" and closed == [brace] and not (has_word or goes_on)
+
+    def is_unsure(self, text, token):
+        """Whether a name is in a directive or an attribute that is left out, or is the label whose
+        address is taken, the member in an old designator, or in the body of a structure."""
+        if token.place not in text.index or token.place in text.left_out:
+            return True
+        code, index = text.code, text.index[token.place]
+        before = code.before(index)
+        is_sign = code.text(before) == b"&" and code.text(before - 1) == b"&"
+        is_address = is_sign and code.touch(before - 1) and not ends_operand(code, before - 2)
+        is_given = code.text(before) in (b"{", b",") and is_colon(code, code.following(index))
+        around = code.around[index]
+        return is_address or is_given or (code.text(around) == b"{" and around in text.bodies)
 
     def refuse_arguments(self, thing, places):
         """No use is an argument of a strange macro; of a name of the file no token of the name."""
@@ -499,6 +533,9 @@ class Tree:
             text = self.text(file)
             if isinstance(thing, NameOfFile):
                 uses = [token.place for token in text.named.get(thing.name, [])]
+            elif thing.kind == "label":
+                # a macro can take another name of this spelling for the label
+                uses = [it.place for it in self.names_of(text, thing) if it.text == thing.name]
             called = {it for use in uses for it in self.called_around(text, use, thing)}
             through = self.strange([it.text for it in sorted(called, key=lambda it: it.place)])
             if through is not None:
@@ -552,6 +589,21 @@ class Tree:
             ):
                 line = text.count(b"\n", 0, use) + 1
                 raise Refusal(b"odd bytes: %s:%d" % (file, line))
+
+
+def ends_operand(stream, index):
+    """Whether an operand can end at a token: a name, a number, a literal, or a closing bracket."""
+    if index < 0:
+        return False
+    token = stream.tokens[index]
+    is_literal = token.text[:1] in (b'"', b"'")
+    return token.is_name or token.is_number or is_literal or token.text in (b")", b"]")
+
+
+def is_colon(stream, index):
+    """Whether a token is a `:` that no `:` touches behind it."""
+    touches = stream.text(index + 1) == b":" and stream.touch(index)
+    return stream.text(index) == b":" and not touches
 
 
 def is_odd(byte):
