@@ -16,8 +16,8 @@ compiler   where gcc compiles the file alone, it writes the same assembly for th
            with headers. Where it does not, and a macro has to do with it that only a header of the
            system defines, it is counted by itself: no one can know such a macro by the files.
 libclang   where it parses the file, it takes each place that is edited for the same variable, and
-           misses none. A place that it does not see has to be in lines that are passed over, or in
-           the arguments of a macro.
+           misses none. A place that it does not see has to be in lines that are passed over, in the
+           arguments of a macro, or in the list of a function in the old style.
 
 gcc and libclang (`python3-clang-14` and `libclang-common-14-dev` of Debian 12) are left out where
 they are missing. With `--model` the model is asked in place of the program. Each wrong rename is
@@ -39,7 +39,7 @@ import shutil
 import subprocess
 import sys
 import tempfile
-from typing import Optional
+from typing import Iterator, Optional
 
 HERE = pathlib.Path(__file__).resolve().parent
 sys.path[:0] = [str(HERE.parent), str(HERE.parent / "models")]
@@ -219,7 +219,16 @@ class Parsed:
                     self.called.append(self.with_arguments(cursor.extent))
                 else:
                     self.walk(cursor)
-        self.passed_over = passed_over(self.unit, name)
+        self.passed_over = passed_over(self.unit, name) + [*self.old_lists()]
+
+    def old_lists(self) -> Iterator[tuple[int, int]]:
+        """The bytes of the lists of functions in the old style, of whose names it tells nothing."""
+        names = names_of(self.text)
+        tokens, pair = names.code.tokens, names.code.pair
+        for function in names.functions:
+            if function.is_old:
+                for opened in names.lists_of_function(function)[:1]:
+                    yield tokens[opened].place, tokens[pair[opened]].end
 
     def walk(self, cursor) -> None:
         """Notes what the names below a cursor mean."""
