@@ -68,14 +68,6 @@ class Names(names_model.Text):
             end = stream.following(stream.pair[end])
         return self.is_assigned(stream, end)
 
-    @functools.cached_property
-    def left_out(self):
-        """The places of the tokens of attributes that are left out."""
-        tokens, found = self.code.tokens, set()
-        for first, last in self.code.hard_last.items():
-            found.update(token.place for token in tokens[first : last + 1])
-        return found
-
     def is_in_function(self, thing):
         """Whether the scope of a thing is in a function: else it is a list of the file."""
         tokens = self.code.tokens

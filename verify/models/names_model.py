@@ -255,13 +255,13 @@ class Text:
             found.setdefault(token.text, []).append(token)
         return found
 
-    def is_list(self, thing):
-        """Whether the scope of a thing is a list of parameters that is not of a function."""
-        return thing.kind == "local" and thing.start in self.starts_of_lists
-
     @functools.cached_property
-    def starts_of_lists(self):
-        return {self.code.tokens[one.first].place for one in self.scopes if one.kind == "list"}
+    def left_out(self):
+        """The places of the tokens of attributes that are left out."""
+        tokens, found = self.code.tokens, set()
+        for first, last in self.code.hard_last.items():
+            found.update(token.place for token in tokens[first : last + 1])
+        return found
 
     def token_at(self, place):
         """The name that holds a place or ends at it, or none."""
@@ -308,6 +308,12 @@ class Text:
             last = code.first_after(brace, b"}", 1)
             last = len(code.tokens) - 1 if last is None else last
             yield Function(index, start, brace, last, is_old)
+
+    def range_of(self, function):
+        """Where a function begins and ends: one that is not closed ends with the text."""
+        last = self.split.first_after(function.brace, b"}", 1)
+        end = len(self.text) if last is None else self.code.tokens[last].end
+        return self.code.tokens[function.start].place, end
 
     def find_bodies(self):
         """Finds the bodies of structures and the like, and what is declared in them."""

@@ -1,12 +1,15 @@
 """Wrong rules that a tired programmer could write, each in place of one of `names_model.py`.
 
-`random-names.py --self-test` has to find each.
+`random-names.py --self-test` has to find each, and `random-editors.py --self-test` those at the
+end, which are of renames of locals.
 """
 
 from __future__ import annotations
 
+import functools
+
 from names_model import PARTNER, Scope, Text, Thing
-from reach_model import Tree
+from reach_model import STRANGE, Macro, Refusal, Tree
 from wide_model import name_of
 
 
@@ -379,4 +382,233 @@ PLANTS = [
     LoopDeclares, TypeofNames, OldListAlone, OuterDefinition, EnumeratorsOfFile, TagsOfFile,
     ComparedIsWritten, AndIsAddress, PointedIsWritten, MemberIsWritten, BracketsByDepth,
     MacroReachesNothing, StrangeIsPlain, UsedInBlock, IncludedIsLost, PrivateFirst,
+]  # fmt: skip
+
+
+# ---- renames of locals
+
+
+class OneRoundLess(Tree):
+    """A macro is followed in 15 rounds."""
+
+    most_rounds = 15
+
+
+class OneRoundMore(Tree):
+    """A macro is followed in 17 rounds."""
+
+    most_rounds = 17
+
+
+class FirstTextAlone(Tree):
+    """Of several definitions of a macro the first one counts."""
+
+    @functools.cached_property
+    def macros(self):
+        return {name: some[:1] for name, some in super().macros.items()}
+
+
+class OwnTextAlone(Tree):
+    """The arguments of a macro are judged by its own text."""
+
+    def strange(self, names):
+        macros = self.macros
+        for name in names:
+            if name in STRANGE or any(it.is_strange for it in macros.get(name, [])):
+                return name
+        return None
+
+
+class LongChainsReachNothing(Tree):
+    """A macro that leads to too many others is taken for one that reaches nothing."""
+
+    def met(self, names):
+        return super().met(names)[0], {}
+
+
+class NameByName(Tree):
+    """The macros of one name are followed to their end before those of the next."""
+
+    def leading(self, names, is_sought):
+        found = (super(NameByName, self).leading([name], is_sought) for name in names)
+        return next((it for it in found if it is not None), None)
+
+
+class AttributeIsForgotten(Tree):
+    """A place in an attribute that is left out is no reason."""
+
+    def is_unsure(self, text, token):
+        return token.place not in text.left_out and super().is_unsure(text, token)
+
+
+class EarlyEndIsForgotten(Tree):
+    """A function that ends early is renamed in as far as it is found."""
+
+    def is_whole(self, text, function):
+        return True
+
+
+class AllIsSure(Tree):
+    """Each place of the code is known for what it is."""
+
+    def is_unsure(self, text, token):
+        return token.place not in text.index or token.place in text.left_out
+
+
+class OutsideFirst(Tree):
+    """A function that is not all there refuses a rename before its macros do."""
+
+    def refuse_macros(self, file, thing, new):
+        self.refuse_unseen(file, thing)
+        super().refuse_macros(file, thing, new)
+
+
+class LabelStandsAlone(Tree):
+    """An argument that a macro takes for a label is no reason."""
+
+    def names_of(self, text, thing):
+        uses = text.used.get(thing, [])
+        names = super().names_of(text, thing)
+        return [
+            it for it in names if thing.kind != "label" or it.place in uses or it.text != thing.name
+        ]
+
+
+class DirectiveIsForgotten(Tree):
+    """A place in a directive is no reason."""
+
+    def names_of(self, text, thing):
+        return [it for it in super().names_of(text, thing) if it.place in text.index]
+
+
+class HeadIsForgotten(Tree):
+    """A function begins with its body."""
+
+    def range_of(self, text, thing):
+        start, end = super().range_of(text, thing)
+        braces = [text.code.tokens[it.brace].place for it in text.functions]
+        return next((it for it in braces if start < it < end), start), end
+
+
+class InnermostMacro(Tree):
+    """Of the macros around a use the innermost one is reported."""
+
+    def strange(self, names):
+        return super().strange(names[::-1])
+
+
+class MembersAreTaken(Tree):
+    """What takes a member does not come before other macros."""
+
+    def strange(self, names):
+        for name in names:
+            found = super().strange([name])
+            if found is not None:
+                return found
+        return None
+
+
+class LastMacro(Tree):
+    """Of the macros that reach a name the last one is reported."""
+
+    def names_of(self, text, thing):
+        return super().names_of(text, thing)[::-1]
+
+
+class ArgumentsFirst(Tree):
+    """What stands in the arguments of a macro comes before what it reaches."""
+
+    def refuse_macros(self, file, thing, new):
+        self.refuse_arguments(thing, {file: [it for it, _ in self.text(file).uses(thing)]})
+        super().refuse_macros(file, thing, new)
+
+
+class OldMayBeType(Tree):
+    """A typedef may have the old name."""
+
+    def is_taken(self, thing, new):
+        return new in self.macros or thing.name in self.macros or bool(self.of_kinds(new, b"t"))
+
+
+class OneSideIsOdd(Tree):
+    """The byte before a name is not looked at."""
+
+    def refuse_odd(self, file, uses, name):
+        text = self.files[file]
+        self.files[file] = b"".join(
+            b" " if place + 1 in uses else text[place : place + 1] for place in range(len(text))
+        )
+        try:
+            super().refuse_odd(file, uses, name)
+        finally:
+            self.files[file] = text
+
+
+class MembersCount(Macro):
+    """A member in the text of a macro is reached."""
+
+    def is_apart(self, index):
+        return self.text.text(index - 1) in (b"struct", b"union", b"enum")
+
+
+class TagsCount(Macro):
+    """A tag in the text of a macro is reached."""
+
+    def is_apart(self, index):
+        is_tag = self.text.text(index - 1) in (b"struct", b"union", b"enum")
+        return super().is_apart(index) and not is_tag
+
+
+class DesignatorIsMember(Macro):
+    """Each name behind a `.` in the text of a macro is a member."""
+
+    def is_apart(self, index):
+        return super().is_apart(index) or self.text.is_dot(index - 1)
+
+
+class ParametersCount(Macro):
+    """A parameter of a macro is a name of its text."""
+
+    @property
+    def names(self):
+        return [token.text for token in self.text.tokens if token.is_name]
+
+
+class PastedIsPlain(Macro):
+    """`##` makes nothing strange."""
+
+    @property
+    def is_strange(self):
+        tokens = self.text.tokens
+        texts = [token.text for token in tokens]
+        pairs = [it for it in range(len(tokens)) if texts[it : it + 2] == [b"#", b"#"]]
+        left = {it + more for it in pairs for more in (0, 1)}
+        return any(
+            (token.text == b"#" and index not in left)
+            or token.text in STRANGE
+            or self.is_strange_at(index)
+            for index, token in enumerate(tokens)
+        )
+
+
+class ArgumentsStay(Macro):
+    """A parameter that becomes a member, a tag or a label makes nothing strange."""
+
+    def is_strange_at(self, index):
+        return False
+
+
+def with_macros(macro):
+    """A tree with other macros."""
+    return type(macro.__name__, (Tree,), {"macro_of": macro})
+
+
+RENAME_PLANTS = [
+    MacroReachesNothing, StrangeIsPlain, IncludedIsLost, OneRoundLess, OneRoundMore, FirstTextAlone,
+    OwnTextAlone, LongChainsReachNothing, NameByName, AttributeIsForgotten, DirectiveIsForgotten,
+    HeadIsForgotten, InnermostMacro, MembersAreTaken, LastMacro, ArgumentsFirst, OldMayBeType,
+    OneSideIsOdd, EarlyEndIsForgotten, AllIsSure, OutsideFirst, LabelStandsAlone,
+    *map(with_macros, [
+        MembersCount, TagsCount, DesignatorIsMember, ParametersCount, PastedIsPlain, ArgumentsStay,
+    ]),
 ]  # fmt: skip

@@ -10,9 +10,9 @@ from __future__ import annotations
 import functools
 
 from names_model import Text, Thing
-from reach_model import KINDS_OF_SPACE, Refusal, Tree
-from server_model import LINKED, Error, Server, header_at, is_declared_wanted, listed
-from server_model import quoted, range_form, string_of, word_at
+from reach_model import KINDS_OF_SPACE, Tree
+from server_model import Error, Server, header_at, is_declared_wanted, listed
+from server_model import range_form, string_of, word_at
 
 HIGHLIGHTS = {"t": 1, "r": 2, "w": 3, "a": 3}
 
@@ -28,14 +28,6 @@ class NamesServer(Server):
     def __init__(self, reading=read, **how):
         super().__init__(**how)
         self.reading = reading
-
-    @property
-    def tree(self):
-        """What the names of the files mean now."""
-        files = self.world.files
-        if getattr(self, "read_files", None) is not files:
-            self.read_files, self.read_tree = files, self.make_tree(files)
-        return self.read_tree
 
     def make_tree(self, files):
         return Tree(files, self.reading)
@@ -117,17 +109,4 @@ class NamesServer(Server):
         file, token = self.asked_name(params)
         if token is None:
             raise Error(-32803, b"no such definition")
-        has_root = self.is_root_given or bool(self.root.path)
-        try:
-            places = self.tree.rename(file, token.place, new, has_root, self.may_edit)
-        except Refusal as refusal:
-            raise Error(-32803, quoted(refusal.args[0])[1:-1])
-        all_open = all(it in self.documents for it in places)
-        for it in sorted(places):
-            if it in self.documents and not all_open and self.read_alone(it) is LINKED:
-                raise Error(-32803, quoted(b"open under a second name: " + it)[1:-1])
-        edits = [
-            b"%s:%s" % (quoted(self.root.uri_of(it)), self.edits(it, places[it], token.text, new))
-            for it in sorted(places)
-        ]
-        return b'{"changes":{%s}}' % b",".join(edits)
+        return self.rename_by_scope(file, token.place, new)

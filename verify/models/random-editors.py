@@ -4,6 +4,7 @@
     make && verify/models/random-editors.py
     verify/models/random-editors.py --cbrowse PATH --sessions 1000 -j 2
     verify/models/random-editors.py --first 4711 --sessions 1      one, by its seed
+    verify/models/random-editors.py --self-test                    wrong rules have to be found
 
 Session number n has the seed n. It has files of the command line or none, a profile, bounds and a
 root, and then 3 to 60 messages, more often those that do something where the session stands:
@@ -15,7 +16,9 @@ sessions it is written to between two messages, with an event or without: files 
 come back, or get a second name. Clients can be asked for events or not. Some sessions have more
 files of one name than are read again. Names are renamed, often where each file was opened or is on
 disk as the server has it, and then the client makes the edits: in each file the new name has to be
-used where the old one was, and nowhere else. Texts have CR LF, lone CRs, byte order marks, letters
+used where the old one was, and nowhere else. In some sessions mostly locals are renamed, in texts
+with macros that reach them, directives in functions and odd bytes beside names, and the new name is
+often bad, taken or used. Texts have CR LF, lone CRs, byte order marks, letters
 outside ASCII, halves of surrogate pairs and, in files and in messages, bytes that are not UTF-8.
 Paths, of the command line too, have empty segments and dots, or lead outside the root. Some
 messages have wrong parameters, ids or members, and between changes of documents some are cut, are
@@ -24,7 +27,9 @@ in random pieces. Standard output, standard error and the status are compared wi
 `server_model.py`.
 
 At the first difference the seed, the input and both outputs are shown and the exit status is 1.
-Else lines tell how often each message was sent and each reply came.
+Else lines tell how often each message was sent and each reply came. The self-test puts each wrong
+rule for renames of `names_plants.py` in the place of the right one, and tells how many sessions it
+takes to see the difference.
 """
 
 from __future__ import annotations
@@ -46,10 +51,14 @@ from typing import NamedTuple, Optional
 from disk_model import Disk, Write, do_on_disk
 from draw import Draw
 from draw_names import DrawNames
+from draw_renames import DrawRenames
 from locals_model import locals_of
-from server_model import MOST_BODY, Ended, Outcome, Server, frame, headers, name_of_operand
+from names_plants import RENAME_PLANTS
+from reach_model import Tree
+from server_model import MOST_BODY, Ended, Outcome, Server, frame, name_of_operand
 from server_model import place_of, position_of, serve
 from session_model import Bounds, Refused, load
+from text_model import headers
 
 sys.path.insert(0, str(pathlib.Path(__file__).resolve().parents[1]))
 from shared import options, words_given  # noqa: E402
@@ -101,6 +110,8 @@ QUERIES = ["", "", "f", "F", "a", "AB", "main", "Main", "b_1", "\u00e9", "f ", "
            "x" * 255, "X" * 255, "x" * 256, "X" * 256, "x" * 300]
 NEW_NAMES = ["sum", "sum", "sum", "_2", "longer_name", *WORDS[:4], "A", "int", "", "1a", "a b",
              "\u00e9", "\ud83d", "sum\n", "x" * 300]
+BAD_NAMES = ["__x", "__", "1x", "int", "asm", "typeof", "offsetof", "defined", "__attribute__",
+             "_Bool", "a-b", "__builtin_offsetof", "\u00e9a", "a\u00e9", " a", "$a"]
 METHODS = [
     "textDocument/implementation", "textDocument/formatting", "$/any", "",
     "exit", "callHierarchy/incomingCalls", "callHierarchy/outgoingCalls", "initialized",
@@ -127,6 +138,13 @@ BAD_HEADS = [
 # fmt: on
 
 
+REFUSED_FOR = re.compile(
+    rb"""(not \ open | used \ in \ a \ macro | in \ the \ arguments \ of \ a \ macro | odd \ bytes
+    | used \ from \ outside | not \ text | outside \ the \ root): \ (?: [^"\\] | \\. )+""",
+    re.VERBOSE,
+)
+
+
 class Difference(Exception):
     """The program wrote something else than was expected."""
 
@@ -149,7 +167,7 @@ class Editor:
 
     def __init__(self, seed: int, home: str):
         self.random, self.draw = random.Random(f"editor {seed}"), Draw(seed)
-        self.names = DrawNames(seed)
+        self.names, self.renames = DrawNames(seed), DrawRenames(seed)
         self.profile = self.one(b"", b"", b"", b"--wide", b"--prototypes")
         self.folder = self.one(*FOLDERS) if self.chance(0.25) else None
         self.bounds = Bounds()
@@ -165,6 +183,7 @@ class Editor:
         self.files: dict[str, bytes] = {}  # by the words that name them
         self.next: list[dict] = []  # what is to be sent before anything else is drawn
         self.is_renaming = False  # the next ones rename
+        self.is_of_locals = self.chance(0.4)  # more texts and renames of locals are drawn
         self.edited: dict[bytes, list[bytes]] = {}  # the names that files have to use then
         self.disk = Disk()
         # the program runs in its root
@@ -324,17 +343,26 @@ class Editor:
 
     def text(self) -> bytes:
         """The bytes of a file."""
-        text = self.one(*[self.draw.file] * 5, *[self.draw.wide_file] * 3, self.names.text)()
+        if self.is_of_locals and self.chance(0.8):
+            text = self.with_odd_bytes(self.renames.text(), 0, 0, 0, 0, 0, 0, 1, 2)
+            return MARK + text if self.chance(0.03) else text
+        ways = [self.draw.file] * 5 + [self.draw.wide_file] * 3
+        text = self.one(*ways, self.names.text, self.renames.text)()
         if self.chance(0.5):
             lines = self.random.choices(DEFINING, k=self.one(1, 2, 4, 8, 16))
             words = [self.random.choices(WORDS, k=10) for _ in lines]
             more = "".join(line.format(*some) for line, some in zip(lines, words)).encode()
             text = self.one(more, more + text, text + more)
-        for _ in range(self.one(0, 0, 0, 1, 2, 5)):
+        text = self.with_odd_bytes(text, 0, 0, 0, 1, 2, 5)
+        return MARK + text if self.chance(0.1) else text
+
+    def with_odd_bytes(self, text: bytes, *numbers: int) -> bytes:
+        """A text with odd bytes in one of these numbers of places."""
+        for _ in range(self.one(*numbers)):
             place = self.random.randint(0, len(text))
             more = self.one(*BAD) if self.chance(0.2) else self.one(*ODD).encode()
             text = text[:place] + more + text[place:]
-        return MARK + text if self.chance(0.1) else text
+        return text
 
     def sent_text(self) -> str:
         """A text in a message. What is no UTF-8 stands as such or as the bytes that it is."""
@@ -528,6 +556,39 @@ class Editor:
         file, token = self.one(*found)
         return self.at(file, token.place + self.one(0, 1, len(token.text)), self.one(*LOCAL_WAYS))
 
+    def rename_local(self) -> dict:
+        """A rename of a local, or the question whether there is one. Before it, a file that is not
+        open is often opened."""
+        files = self.server.world.files
+        found = [(file, it) for file, text in files.items() for it in locals_of(text)]
+        if not found:
+            return self.at_place()
+        file, token = self.one(*found)
+        way = "prepareRename" if self.chance(0.15) else "rename"
+        asked = self.at(file, token.place + self.one(0, 0, 1, len(token.text)), way)
+        if way == "rename":
+            asked["params"]["newName"] = self.new_name(files[file])
+        if not self.server.may_edit(file) and self.chance(0.8):
+            self.next.append(asked)
+            return self.opened(file)
+        return asked
+
+    def new_name(self, text: bytes) -> str:
+        """A new name: a fresh one, or one that is bad, taken or used, in the file or elsewhere."""
+        kind = self.random.random()
+        if kind < 0.6:
+            return self.one("fresh", "q", "_2", "longer_name")
+        if kind < 0.66:
+            return self.one(*BAD_NAMES)
+        if kind < 0.74:
+            return self.one(*(it.text for it in locals_of(text))).decode()
+        if kind < 0.85:
+            definitions = [it.definition.name for it in self.server.places()]
+            return self.one(*definitions, b"out").decode()
+        if kind < 0.95:
+            return self.one(*re.findall(rb"[A-Za-z_]\w*", text)).decode()
+        return self.one(*NEW_NAMES)
+
     def about_crowd(self) -> dict:
         """A question about the name that all files of a crowd have."""
         files = self.server.world.files
@@ -623,7 +684,8 @@ class Editor:
             if names != [it.name for it in self.server.facts(text).uses]:
                 raise Difference(f"{name!r} does not use {names} after its edits: {text!r}")
         if b'"result":{"changes":{' in written and self.chance(0.7):
-            self.make_edits(json.loads(written.partition(b"\r\n\r\n")[2]))
+            # what was told before the reply stands before it
+            self.make_edits(json.loads(written.rpartition(b"\r\n\r\n")[2]))
 
     def symbols(self) -> dict:
         return self.request("textDocument/documentSymbol", {"textDocument": {"uri": self.uri()}})
@@ -710,6 +772,7 @@ class Editor:
             self.about_local: 8,
             self.about_crowd: 40 if self.is_crowd else 0,
             self.rename: 20 if self.stays_closed else 4,
+            self.rename_local: 60 if self.is_of_locals else 6,
             self.symbols: 5,
             self.all_symbols: 4,
             self.calls: 4,
@@ -869,13 +932,18 @@ def compare(cbrowse: str, seed: int) -> tuple[collections.Counter, collections.C
         return compare_in(home, cbrowse, seed)
 
 
+def expected(session: Session) -> Outcome:
+    """What the model writes in a session."""
+    operands = [(name.encode(), text) for name, text in session.files.items()]
+    how = {**session.how, "disk": session.how["disk"].copy()}
+    return serve(operands, session.data, session.writes, **how)
+
+
 def compare_in(home: str, cbrowse: str, seed: int):
     session = Editor(seed, home).session()
-    operands = [(name.encode(), text) for name, text in session.files.items()]
-    expected = serve(operands, session.data, session.writes, **session.how)
-    found = run(cbrowse, session, random.Random(seed))
-    if found != expected:
-        same = len(os.path.commonprefix([found.out, expected.out]))
+    meant, found = expected(session), run(cbrowse, session, random.Random(seed))
+    if found != meant:
+        same = len(os.path.commonprefix([found.out, meant.out]))
         start = max(same - 300, 0)
         shown = re.sub(rb"x{100,}", lambda it: b"(%d of x)" % len(it[0]), session.data)
         raise Difference(
@@ -887,8 +955,8 @@ def compare_in(home: str, cbrowse: str, seed: int):
                     *(f"written: {write}" for write in session.writes),
                     f"words: {session.words!r}",
                     f"input: {shown[:60_000]!r}",
-                    f"expected, from byte {start} on: {expected.out[start:start + 1500]!r}"
-                    f" {expected[1:]}",
+                    f"expected, from byte {start} on: {meant.out[start:start + 1500]!r}"
+                    f" {meant[1:]}",
                     f"found: {found.out[start:start + 1500]!r} {found[1:]}",
                     f"the first other byte is number {same}",
                 ]
@@ -898,12 +966,12 @@ def compare_in(home: str, cbrowse: str, seed: int):
     sent = collections.Counter(it.replace(b"\\/", b"/") or b"none" for it in methods)
     kinds = rb'"(?:message|result)":("[^"]{0,40}|null|\[\]|\[|\{"[A-Za-z]+")'
     out, error = (
-        re.sub(rb"cbrowse: \S+:", b"cbrowse: NAME:", it) for it in (expected.out, expected.error)
+        re.sub(rb"cbrowse: \S+:", b"cbrowse: NAME:", it) for it in (meant.out, meant.error)
     )
-    came = re.sub(rb'not open: [^"]+', b"not open: NAME", out)
+    came = re.sub(REFUSED_FOR, rb"\1: NAME", out)
     told = collections.Counter(re.findall(kinds, came))
     told.update(re.findall(rb'\}\},"(kind":[123])\}', came))
-    told[b"status %d %s" % (expected.status, error.strip())] += 1
+    told[b"status %d %s" % (meant.status, error.strip())] += 1
     return sent, told
 
 
@@ -919,6 +987,26 @@ def batch(cbrowse: str, first: int, number: int):
     return None, sent, told
 
 
+def self_test(first: int, number: int) -> int:
+    """Looks for the first session that tells each wrong rule of renames from the right one."""
+    left = [*RENAME_PLANTS]
+    for seed in range(first, first + number):
+        with tempfile.TemporaryDirectory() as home:
+            session = Editor(seed, home).session()
+        right = expected(session)
+        for plant in [*left]:
+            Server.tree_of = plant
+            if expected(session) != right:
+                print(f"{plant.__name__}: session {seed - first + 1}, of seed {seed}", flush=True)
+                left.remove(plant)
+        Server.tree_of = Tree
+        if not left:
+            break
+    for plant in left:
+        print(f"FAILED: {plant.__name__} is not found in {number} sessions")
+    return 1 if left else 0
+
+
 def main() -> None:
     parser = options(__doc__)
     parser.add_argument(
@@ -930,6 +1018,10 @@ def main() -> None:
     parser.add_argument(
         "-j", dest="workers", type=int, default=2, help="how many at once, 2 by default"
     )
+    parser.add_argument("--self-test", action="store_true", help="wrong rules have to be found")
+    if "--self-test" in sys.argv:
+        given = parser.parse_args()
+        raise SystemExit(self_test(given.first, given.sessions))
     given = words_given(parser)
     sent, told = collections.Counter(), collections.Counter()
     last = given.first + given.sessions

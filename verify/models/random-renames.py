@@ -5,11 +5,12 @@
     verify/models/random-renames.py --first 4711 --texts 1 --drawn     one that is drawn
 
 Text number n has the seed n. It is one of the C files below FOLDER, as it stands or with up to nine
-random edits (brackets, `;`, `for (`, `goto`, `#if`, names), or it is drawn as a whole. In each some
-locals, labels and parameters of macros get another name: one that is new, or one of the text. Each
-rename that is accepted is made. Then the new text has to have the same pieces but for the names of
-those that were edited; and each name has to have its space and its letter as before, and be bound
-to what it was bound to, with the places moved.
+random edits (brackets, `;`, `for (`, `goto`, `#if`, names), or it is drawn as a whole. Half of the
+texts are read within the limits of the program. In each some locals, labels and parameters of
+macros get another name: one that is new, or one of the text. Each rename that is accepted is made.
+Then the new text has to have the same pieces but for the names of those that were edited; and each
+name has to have its space and its letter as before, and be bound to what it was bound to, with the
+places moved.
 
 At the first wrong rename the seed and the texts are shown and the exit status is 1. Else lines tell
 how many renames were accepted, and how often each reason refused one.
@@ -18,16 +19,17 @@ how many renames were accepted, and how often each reason refused one.
 from __future__ import annotations
 
 import argparse
-import bisect
 import collections
 import pathlib
 import random
 import sys
 
 from draw_names import EDITS, DrawNames
+from draw_renames import DrawRenames
+from locals_model import Names
 from names_model import Text
-from reach_model import Refusal, Tree, renamed
-from text_model import PIECE
+from reach_model import Refusal, Tree
+from rename_law import Difference, check
 
 HERE = pathlib.Path(__file__).resolve().parent
 sys.path.insert(0, str(HERE.parent))
@@ -35,58 +37,6 @@ from shared import c_files  # noqa: E402
 
 FILE = b"a.c"
 LARGEST = 60_000  # bytes of a real text
-
-
-def pieces(text):
-    return [found[0] for found in PIECE.finditer(text)]
-
-
-class Difference(Exception):
-    """A rename that changed what a name means."""
-
-
-def described(text, moved):
-    """What each name of a text is, with places moved: name, space, binding, definition, letter."""
-    told = []
-    for token in text.tokens:
-        thing, found = text.binding(token.place), text.definition(token.place)
-        bounds = thing.start, thing.end
-        told.append(
-            (
-                moved(token.place),
-                text.space(token.place),
-                thing.kind,
-                tuple(moved(one) if one >= 0 else one for one in bounds),
-                None if found is None else moved(found),
-                text.letter(token.place),
-            )
-        )
-    return told
-
-
-def check(old, places, name, new, read=Text):
-    """Compares a text with the one that a rename makes of it."""
-    made = renamed(old.text, places, name, new)
-    places, more = sorted(places), len(new) - len(name)
-
-    def moved(place):
-        return place + more * bisect.bisect_left(places, place)
-
-    before, after = pieces(old.text), pieces(made)
-    at, edited, expected = 0, set(places), []
-    for piece in before:
-        expected.append(new if at in edited else piece)
-        at += len(piece)
-    if expected != after:
-        raise Difference("the pieces differ", made)
-    text = read(made)
-    one, other = described(old, moved), described(text, lambda place: place)
-    if one != other:
-        number = next(
-            (n for n, pair in enumerate(zip(one, other)) if pair[0] != pair[1]),
-            min(len(one), len(other)),
-        )
-        raise Difference(f"{one[number:][:1]} is now {other[number:][:1]}", made)
 
 
 def edited(text, draw):
@@ -142,13 +92,14 @@ def main() -> int:
     counts: collections.Counter = collections.Counter()
     for seed in range(given.first, given.first + given.texts):
         draw = random.Random(f"renames {seed}")
+        read = draw.choice([Text, Names])
         if given.drawn:
-            text = DrawNames(seed).text()
+            text = draw.choice([DrawNames, DrawRenames])(seed).text()
         else:
             text = (given.sources / draw.choice(files)).read_bytes()
             text = edited(text, draw) if draw.random() < 0.5 else text
         try:
-            counts.update(tried(text, draw, given.renames))
+            counts.update(tried(text, draw, given.renames, read))
         except Difference as difference:
             print(f"the text of seed {seed}: {difference.args[0]}")
             return 1

@@ -4,6 +4,14 @@ alone.
 `names_model.py` says what is bound within a text. Here a free name is looked for in the files: in
 those that the asking file includes first, then in the nearest ones. A rename of a thing gives the
 places of its uses, or the reason why it is refused.
+
+The rules leave some things open, and are read so. Macros are followed from the names of a function,
+in rounds, each once: to those that the texts found in the last round name. Of several macros that
+refuse a rename the one that is found first counts, and what is reported is the name of the function
+that led to it. The text of a macro is taken by itself: a name is a member there behind `->`, and
+behind a `.` that directly follows a name, `)` or `]`. A rename is refused, too, where a function is
+not all there, or a place of the old name is not known for what it is. Of several reasons the first
+of the table counts; a file outside the root is one that is not open.
 """
 
 from __future__ import annotations
@@ -13,9 +21,8 @@ import re
 from typing import NamedTuple
 
 import wide_model
-from names_model import Text, Thing
-from server_model import headers, is_counted_alike
-from text_model import RESERVED
+from names_model import HARD, Stream, Text, Thing
+from text_model import RESERVED, headers, is_counted_alike
 
 PRIVATE_KINDS = frozenset([b"d", b"t", b"s", b"u", b"g", b"e", b"m"])
 TAG_KINDS = {b"struct": b"s", b"union": b"u", b"enum": b"g"}
@@ -48,11 +55,53 @@ class NameOfFile(NamedTuple):
 
 
 class Macro(NamedTuple):
-    """A definition of a macro: its parameters, the spaces and the tokens of its text."""
+    """A definition of a macro: its parameters and its text."""
 
     parameters: frozenset
-    tokens: list
-    spaces: list
+    text: Stream
+
+    @property
+    def names(self):
+        """The names of the text that are no parameters, by place."""
+        names = [token.text for token in self.text.tokens if token.is_name]
+        return [name for name in names if name not in self.parameters]
+
+    def has(self, *wanted):
+        """Whether the text has one of some names that is no parameter, and neither a member nor a
+        tag there."""
+        return any(
+            token.text in wanted and token.text in self.names and not self.is_apart(index)
+            for index, token in enumerate(self.text.tokens)
+        )
+
+    def is_apart(self, index):
+        """Whether a name of the text is a member or a tag."""
+        text = self.text
+        follows = text.is_name(index - 2) or text.text(index - 2) in (b")", b"]")
+        is_member = text.is_arrow(index - 2) or (text.is_dot(index - 1) and follows)
+        return is_member or text.text(index - 1) in TAG_KINDS
+
+    @property
+    def is_strange(self):
+        """Whether an argument can become something else than what it is."""
+        return any(
+            self.is_hash(index) or token.text in STRANGE or self.is_strange_at(index)
+            for index, token in enumerate(self.text.tokens)
+        )
+
+    def is_hash(self, index):
+        """Whether a token is `#`, or begins `%:`, which is another way to write it."""
+        texts = self.text.text(index), self.text.text(index + 1)
+        return texts[0] == b"#" or texts == (b"%", b":")
+
+    def is_strange_at(self, index):
+        """Whether a parameter stands where no variable does."""
+        text, befores = self.text, (b".", b"struct", b"union", b"enum", b"goto")
+        return text.text(index) in self.parameters and (
+            text.text(index - 1) in befores
+            or text.is_arrow(index - 2)
+            or text.text(index + 1) == b":"
+        )
 
 
 def folders(file):
@@ -85,8 +134,11 @@ def resolved(path):
 class Tree:
     """A set of files, by name, and what their names mean."""
 
-    def __init__(self, files, read=Text):
-        self.files, self.read = dict(files), read
+    macro_of = Macro
+    most_rounds = MOST_ROUNDS
+
+    def __init__(self, files, read=Text, facts=wide_model.facts):
+        self.files, self.read, self.facts = dict(files), read, facts
         self.texts = {}
         self.closures = {}
 
@@ -124,10 +176,10 @@ class Tree:
 
     @functools.cached_property
     def defined(self):
-        """All definitions with prototypes, by name, each list by file and place."""
+        """All definitions, by name, each list by file and place."""
         found: dict = {}
         for file, text in sorted(self.files.items()):
-            for one in wide_model.facts(text).definitions:
+            for one in self.facts(text).definitions:
                 found.setdefault(one.name, []).append(
                     Found(file, one.place, one.kind, one.name, one.local)
                 )
@@ -312,8 +364,7 @@ class Tree:
         """The definitions of macros, by name."""
         found: dict = {}
         for file in sorted(self.files):
-            text = self.text(file)
-            for line, stream in text.directives:
+            for line, stream in self.text(file).directives:
                 if line.own_word != b"define" or not stream.is_name(2):
                     continue
                 parameters, first = frozenset(), 3
@@ -324,70 +375,36 @@ class Tree:
                         token.text for token in stream.tokens[4:last] if token.is_name
                     )
                     first = last + 1
-                tokens = stream.tokens[first:]
-                spaces = [text.spaces.get(token.place) for token in tokens]
-                found.setdefault(stream.text(2), []).append(Macro(parameters, tokens, spaces))
+                text = Stream(self.files[file], stream.tokens[first:])
+                found.setdefault(stream.text(2), []).append(self.macro_of(parameters, text))
         return found
 
-    def reaching(self, name):
-        """The macros that reach a name; a round that is one too many refuses a rename."""
+    def met(self, names):
+        """The macros that some names lead to, in the order in which they are found, each with the
+        name that led to it; and those of the last round."""
+        found: dict = {name: name for name in names if name in self.macros}
+        last = found
+        for _ in range(self.most_rounds):
+            more: dict = {}
+            for one, through in last.items():
+                for name in self.named_by(one):
+                    if name in self.macros and name not in found:
+                        more.setdefault(name, through)
+            found, last = {**found, **more}, more
+        return found, last
 
-        def has(one, other):
-            return any(
-                token.text == other and space not in ("macro parameter", "member", "tag")
-                for token, space in zip(one.tokens, one.spaces)
-            )
+    def named_by(self, name):
+        """The names that the texts of a macro name, by file and place."""
+        return [it for macro in self.macros[name] for it in macro.names]
 
-        def names(one):
-            return {
-                token.text
-                for token, space in zip(one.tokens, one.spaces)
-                if token.is_name and space != "macro parameter"
-            }
-
-        def found_by(found, macro):
-            return any(has(one, name) or names(one) & found for one in self.macros[macro])
-
-        return self.least(found_by)
-
-    @functools.cached_property
-    def strange(self):
-        """The macros whose arguments can become something else than what they are."""
-
-        def is_strange(found, macro):
-            return any(self.makes_strange(one, found) for one in self.macros[macro])
-
-        return self.least(is_strange) | STRANGE
-
-    def makes_strange(self, macro, found):
-        """Whether the text of a macro makes it strange."""
-        tokens = macro.tokens
-        for index, token in enumerate(tokens):
-            if token.text == b"#" or (token.is_name and token.text in found | STRANGE):
-                return True
-            if not token.is_name or token.text not in macro.parameters:
-                continue
-            before = tokens[index - 1].text if index else b""
-            after = tokens[index + 1].text if index + 1 < len(tokens) else b""
-            is_arrow = (
-                index > 1
-                and before == b">"
-                and tokens[index - 2].text == b"-"
-                and tokens[index - 2].end == tokens[index - 1].place
-            )
-            if before in (b".", b"struct", b"union", b"enum", b"goto") or after == b":" or is_arrow:
-                return True
-        return False
-
-    def least(self, belongs):
-        """The least set of macros, in rounds over all of them."""
-        found: set = set()
-        for number in range(MOST_ROUNDS):
-            more = {one for one in self.macros if one not in found and belongs(found, one)}
-            found |= more
-            if not more:
-                return frozenset(found)
-        raise Refusal(b"used in a macro: " + min(more))
+    def leading(self, names, is_sought):
+        """The first name that leads to a macro with a text that is sought; else, where the last
+        round still finds a macro, the name that led there."""
+        found, last = self.met(names)
+        for name, through in found.items():
+            if any(is_sought(macro) for macro in self.macros[name]):
+                return through
+        return next(iter(last.values()), None)
 
     # ---- rename
 
@@ -411,6 +428,7 @@ class Tree:
             raise Refusal(b"a macro or type has this name")
         if is_bound and thing.kind != "parameter":
             self.refuse_macros(file, thing, new)
+            self.refuse_unseen(file, thing)
         self.refuse_arguments(thing, places)
         self.refuse_outside(file, thing)
         for one, uses in places.items():
@@ -419,41 +437,36 @@ class Tree:
             if not is_counted_alike(self.files[one]):
                 raise Refusal(b"not text: " + one)
         for one in places:
-            if has_root and one.startswith(b"/"):
+            if has_root and one.startswith(b"/") and not is_bound:
                 raise Refusal(b"outside the root: " + one)
         for one in places:
             if not is_open(one):
                 raise Refusal(b"not open: " + one)
         return places
 
-    def words_of(self, text, thing):
-        """The words of the code in the range of a bound thing, and those of directives in it."""
+    def names_of(self, text, thing):
+        """The names in the range of a bound thing, those of directives too, by place."""
         start, end = self.range_of(text, thing)
-        code = [token for token in text.code.tokens if start <= token.place < end and token.is_word]
-        return code, [
-            (line, token)
-            for line, _ in text.directives
-            for token in line.tokens
-            if start <= token.place < end and token.is_word
-        ]
+        return [token for token in text.tokens if start <= token.place < end]
 
     def range_of(self, text, thing):
         """Where a new name may not stand: the function, the directive, or a list that is not in a
         function."""
-        if thing.kind == "parameter" or text.is_list(thing):
-            return thing.start, thing.end
+        function = self.function_of(text, thing)
+        return (thing.start, thing.end) if function is None else text.range_of(function)
+
+    def function_of(self, text, thing):
+        """The function that a local or a label is of, or none."""
         for function in text.functions:
-            start = text.code.tokens[function.start].place
-            end = text.code.tokens[function.last].end
-            if start <= thing.start < end:
-                return start, end
-        return thing.start, thing.end
+            start, end = text.range_of(function)
+            if thing.kind != "parameter" and start <= thing.start < end:
+                return function
+        return None
 
     def is_used(self, file, thing, new):
         """Whether a new name is used where the thing is."""
         if isinstance(thing, Thing):
-            code, directives = self.words_of(self.text(file), thing)
-            return any(one.text == new for one in code + [it for _, it in directives])
+            return any(one.text == new for one in self.names_of(self.text(file), thing))
         return any(new in self.text(one).named for one in self.files)
 
     def is_taken(self, thing, new):
@@ -471,13 +484,48 @@ class Tree:
 
     def refuse_macros(self, file, thing, new):
         """A local and a label: no macro that the function names reaches the old or new name."""
-        code, directives = self.words_of(self.text(file), thing)
-        reaching = self.reaching(thing.name) | self.reaching(new)
-        for token in code:
-            if token.text in reaching:
-                raise Refusal(b"used in a macro: " + token.text)
-        if any(token.text == thing.name for _, token in directives):
-            raise Refusal(b"used in a macro: " + thing.name)
+        text, wanted = self.text(file), (thing.name, new)
+        code = [it.text for it in self.names_of(text, thing) if it.place in text.index]
+        through = self.leading(code, lambda it: it.has(*wanted))
+        if through is not None:
+            raise Refusal(b"used in a macro: " + through)
+
+    def refuse_unseen(self, file, thing):
+        """A local and a label: all of the function is there, all places of the old name are in its
+        code, and it is known what each of them is."""
+        text, function = self.text(file), self.function_of(self.text(file), thing)
+        if function is not None and not self.is_whole(text, function):
+            raise Refusal(b"used from outside: " + file)
+        for token in self.names_of(text, thing):
+            if token.text == thing.name and self.is_unsure(text, token):
+                raise Refusal(b"used in a macro: " + thing.name)
+
+    def is_whole(self, text, function):
+        """Whether a function ends with a brace that closes its body and nothing in it, has no word
+        of an attribute that is not left out, and no brace without a partner is between it and the
+        next one."""
+        tokens = text.code.tokens[function.start : function.last + 1]
+        own = Stream(text.text, [it for it in tokens if it.place not in text.left_out])
+        brace, last = own.tokens.index(text.code.tokens[function.brace]), own.size - 1
+        closed = [it for it in range(brace, last) if own.until.get(it) == last]
+        has_word = any(it.text in HARD for it in own.tokens)
+        behind = [it.name for it in text.functions if it.name > function.last]
+        until = range(function.last + 1, min(behind, default=text.code.size))
+        goes_on = any(text.code.text(it) == b"}" and text.code.pair[it] < 0 for it in until)
+        return own.text(last) == b"}" and closed == [brace] and not (has_word or goes_on)
+
+    def is_unsure(self, text, token):
+        """Whether a name is in a directive or an attribute that is left out, or is the label whose
+        address is taken, the member in an old designator, or in the body of a structure."""
+        if token.place not in text.index or token.place in text.left_out:
+            return True
+        code, index = text.code, text.index[token.place]
+        before = code.before(index)
+        is_sign = code.text(before) == b"&" and code.text(before - 1) == b"&"
+        is_address = is_sign and code.touch(before - 1) and not ends_operand(code, before - 2)
+        is_given = code.text(before) in (b"{", b",") and is_colon(code, code.following(index))
+        around = code.around[index]
+        return is_address or is_given or (code.text(around) == b"{" and around in text.bodies)
 
     def refuse_arguments(self, thing, places):
         """No use is an argument of a strange macro; of a name of the file no token of the name."""
@@ -485,18 +533,30 @@ class Tree:
             text = self.text(file)
             if isinstance(thing, NameOfFile):
                 uses = [token.place for token in text.named.get(thing.name, [])]
-            for use in uses:
-                stream, index = text.stream_at(use)
-                is_list = thing.space == "macro parameter"
-                around = stream.around[index]
-                while around >= 0:
-                    is_macro = stream.is_name(around - 1) and not (is_list and around == 3)
-                    if stream.text(around) == b"(" and stream.pair[around] >= 0 and is_macro:
-                        if stream.text(around - 1) in self.strange:
-                            raise Refusal(
-                                b"in the arguments of a macro: " + stream.text(around - 1)
-                            )
-                    around = stream.around[around]
+            elif thing.kind == "label":
+                # a macro can take another name of this spelling for the label
+                uses = [it.place for it in self.names_of(text, thing) if it.text == thing.name]
+            called = {it for use in uses for it in self.called_around(text, use, thing)}
+            through = self.strange([it.text for it in sorted(called, key=lambda it: it.place)])
+            if through is not None:
+                raise Refusal(b"in the arguments of a macro: " + through)
+
+    def strange(self, names):
+        """The first of some names whose arguments can become something else than what they are: one
+        that takes a member, or else one that leads to a strange text."""
+        taking = next((name for name in names if name in STRANGE), None)
+        return taking or self.leading(names, lambda it: it.is_strange)
+
+    def called_around(self, text, use, thing):
+        """The names that stand directly before a pair of parentheses around a use."""
+        stream, index = text.stream_at(use)
+        around = stream.around[index]
+        while around >= 0:
+            is_list = thing.space == "macro parameter" and around == 3
+            is_called = stream.text(around) == b"(" and stream.pair[around] >= 0 and not is_list
+            if is_called and stream.is_name(stream.before(around)):
+                yield stream.tokens[stream.before(around)]
+            around = stream.around[around]
 
     def refuse_outside(self, file, thing):
         """No text that is included in the function uses it; no other file has a private one."""
@@ -531,14 +591,20 @@ class Tree:
                 raise Refusal(b"odd bytes: %s:%d" % (file, line))
 
 
+def ends_operand(stream, index):
+    """Whether an operand can end at a token: a name, a number, a literal, or a closing bracket."""
+    if index < 0:
+        return False
+    token = stream.tokens[index]
+    is_literal = token.text[:1] in (b'"', b"'")
+    return token.is_name or token.is_number or is_literal or token.text in (b")", b"]")
+
+
+def is_colon(stream, index):
+    """Whether a token is a `:` that no `:` touches behind it."""
+    touches = stream.text(index + 1) == b":" and stream.touch(index)
+    return stream.text(index) == b":" and not touches
+
+
 def is_odd(byte):
     return bool(byte) and (byte in b"$@\"'" or byte[0] >= 0x80)
-
-
-def renamed(text, places, name, new):
-    """A text with another name at these places."""
-    out, end = [], 0
-    for place in sorted(places):
-        out += [text[end:place], new]
-        end = place + len(name)
-    return b"".join([*out, text[end:]])

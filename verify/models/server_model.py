@@ -2,8 +2,9 @@
 
 Messages are framed and judged here, documents are opened, changed and closed, and requests are
 answered. What texts hold is in `text_model.py` and `wide_model.py`, what a name means in its
-function alone in `locals_model.py`, which texts and names of files are accepted in
-`session_model.py`, and what is found on disk in `disk_model.py`. Memory never runs out here.
+function alone in `locals_model.py`, and what a rename of such a name does in `reach_model.py`.
+Which texts and names of files are accepted is in `session_model.py`, and what is found on disk in
+`disk_model.py`. Memory never runs out here.
 """
 
 from __future__ import annotations
@@ -17,9 +18,10 @@ from typing import Callable, NamedTuple, Optional
 import text_model
 import wide_model
 from disk_model import GONE, LINKED, UNREADABLE, Disk
-from locals_model import local_at
+from locals_model import local_at, names_of
+from reach_model import Refusal, Tree
 from session_model import Bounds, Outcome, Refused, World, drop, is_file_name, load, reload, told
-from text_model import RESERVED, cut_lines, header, parts_of
+from text_model import RESERVED, cut_lines, headers, is_counted_alike
 
 sys.set_int_max_str_digits(0)
 MOST_HEAD, MOST_BODY, MOST_DEPTH = 4_096, 16_000_000, 128
@@ -300,13 +302,6 @@ def cut(line, most):
     return line[:end]
 
 
-def is_counted_alike(text):
-    """Whether all editors count the same columns in a text: it is UTF-8, without a byte order mark
-    and without a CR that no LF follows."""
-    is_utf8 = all(found["lone"] is None for found in SEQUENCE.finditer(text))
-    return is_utf8 and not text.startswith(b"\xef\xbb\xbf") and not re.search(b"\r(?!\n)", text)
-
-
 def width(line, is_utf16):
     return sum(units_of(found[0], is_utf16) for found in SEQUENCE.finditer(line))
 
@@ -350,13 +345,6 @@ def word_at(text, place):
     word = text[start:end]
     is_name = word and not word[:1].isdigit() and word not in RESERVED
     return (start, end) if is_name else None
-
-
-@functools.lru_cache(maxsize=4096)
-def headers(text):
-    """Place and bytes of each header."""
-    lines = [line for line in parts_of(text).directives if line.own_word == b"include"]
-    return [(place, name) for place, name in (header(text, it.tokens) for it in lines) if name]
 
 
 def header_at(text, place):
@@ -491,6 +479,8 @@ class Place(NamedTuple):
 
 class Server:
     """The state of a server, and what it has written."""
+
+    tree_of = Tree  # what renames locals
 
     def __init__(self, bounds=Bounds(), profile=b"", folder=None, disk=None):
         self.world, self.documents = World({}, bounds=bounds), {}
@@ -927,11 +917,25 @@ class Server:
         ]
         return listed(self.location(it, self.span_of(it, place, name)) for it, place in places)
 
+    @property
+    def tree(self):
+        """What the names of the files mean now."""
+        files = self.world.files
+        if getattr(self, "read_files", None) is not files:
+            self.read_files, self.read_tree = files, self.make_tree(files)
+        return self.read_tree
+
+    def make_tree(self, files):
+        return self.tree_of(files, names_of, self.facts)
+
     def renamable(self, params):
         """The file of a request, its text, and the word at its place, if that may be renamed."""
         file, text, place = self.asked(params)
-        word = None if file is None or local_at(text, place) else word_at(text, place)
-        if word is not None:
+        local = None if file is None else local_at(text, place)
+        word = None if file is None else word_at(text, place)
+        if local is not None:
+            word = word if local.definition is not None else None
+        elif word is not None:
             name = text[word[0] : word[1]]
             used = (word[0], name) in [(it.place, it.name) for it in self.facts(text).uses]
             word = word if used and self.named(name)[0] else None
@@ -946,6 +950,8 @@ class Server:
         file, text, word = self.renamable(params)
         if word is None:
             raise Error(-32803, b"no such definition")
+        if local_at(text, word[0]) is not None:
+            return self.rename_by_scope(file, word[0], new)
         if not re.fullmatch(rb"[A-Za-z_][A-Za-z0-9_]*", new) or new in RESERVED:
             raise Error(-32803, b"bad name")
         name, uses = text[word[0] : word[1]], {}
@@ -956,18 +962,44 @@ class Server:
                 raise Error(-32803, b"name is used already")
             if it == file if file in private else it not in private:
                 uses[it] = [use.place for use in found if use.name == name]
-        files = [it for it, places in uses.items() if places]
-        all_open = all(it in self.documents for it in files)
-        for it in files:
+        uses = {it: places for it, places in uses.items() if places}
+        for it in uses:
             if not self.may_edit(it):
                 raise Error(-32803, quoted(b"not open: " + it)[1:-1])
-            if it in self.documents and not all_open and self.read_alone(it) is LINKED:
-                raise Error(-32803, quoted(b"open under a second name: " + it)[1:-1])
-        edits = [
-            b"%s:%s" % (quoted(self.root.uri_of(it)), self.edits(it, uses[it], name, new))
-            for it in files
-        ]
-        return b'{"changes":{%s}}' % b",".join(edits)
+            self.refuse_second_name(it, uses)
+        return self.edits(uses, name, new)
+
+    def rename_by_scope(self, file, place, new):
+        """A rename of what the name at a place means by its scope."""
+        has_root = self.is_root_given or bool(self.root.path)
+        try:
+            uses = self.tree.rename(file, place, new, has_root, self.may_edit)
+        except Refusal as refusal:
+            raise Error(-32803, quoted(refusal.args[0])[1:-1])
+        for it in sorted(uses):
+            self.refuse_second_name(it, uses)
+        return self.edits(uses, self.tree.text(file).token_at(place).text, new)
+
+    def refuse_second_name(self, file, uses):
+        """Where not all files of a rename are open, none that is open has a second name."""
+        all_open = all(it in self.documents for it in uses)
+        if file in self.documents and not all_open and self.read_alone(file) is LINKED:
+            raise Error(-32803, quoted(b"open under a second name: " + file)[1:-1])
+
+    def edits(self, uses, name, new):
+        """A new name at these places, by file."""
+        changes = (
+            b"%s:%s"
+            % (
+                quoted(self.root.uri_of(file)),
+                listed(
+                    b'{"range":%s,"newText":%s}' % (self.span_of(file, it, name), quoted(new))
+                    for it in uses[file]
+                ),
+            )
+            for file in sorted(uses)
+        )
+        return b'{"changes":{%s}}' % b",".join(changes)
 
     def read_alone(self, file):
         """What is found of a file that may have no second name."""
@@ -983,12 +1015,6 @@ class Server:
             return not self.documents[file].is_lost
         text = self.world.files[file]
         return self.read_alone(file) == text and is_counted_alike(text)
-
-    def edits(self, file, places, name, new):
-        return listed(
-            b'{"range":%s,"newText":%s}' % (self.span_of(file, it, name), quoted(new))
-            for it in places
-        )
 
     def highlights(self, params):
         file, text, place = self.asked(params)

@@ -433,6 +433,23 @@ def parts_of(text):
 
 
 @functools.lru_cache(maxsize=4096)
+def headers(text):
+    """Place and bytes of each header."""
+    lines = [line for line in parts_of(text).directives if line.own_word == b"include"]
+    return [(place, name) for place, name in (header(text, it.tokens) for it in lines) if name]
+
+
+def is_counted_alike(text):
+    """Whether all editors count the same columns in a text: it is UTF-8, without a byte order mark
+    and without a CR that no LF follows."""
+    try:
+        text.decode()
+    except UnicodeDecodeError:
+        return False
+    return not text.startswith(b"\xef\xbb\xbf") and not re.search(b"\r(?!\n)", text)
+
+
+@functools.lru_cache(maxsize=4096)
 def facts(text):
     """All that is found in a text."""
     parts = parts_of(text)
