@@ -6,6 +6,8 @@
 # make uninstall    takes away what make install puts in place, and the folders that are then empty
 # make deb          dist/cbrowse_VERSION_ARCH.deb, a Debian package of the same
 # make dist         a tar of the same, and one of the sources of the last commit, in dist/
+#
+# The first three say what they need, if it is not there.
 .PHONY: all program quick test install uninstall deb dist clean
 
 PREFIX ?= /usr/local
@@ -15,15 +17,18 @@ ZSH ?= $(PREFIX)/share/zsh/site-functions
 all: program
 
 program:
+	@scripts/needs.sh make
 	scripts/prove.py
 	cd crates/cbrowse && rt run -- line </dev/null >/dev/null
 	mkdir -p bin
 	cp crates/cbrowse/out/cbrowse bin/cbrowse
 
 quick:
+	@scripts/needs.sh quick
 	scripts/quick.py
 
 test:
+	@scripts/needs.sh test
 	scripts/gate.py
 
 # The program is copied as it stands in bin: nothing is proved anew, unless there is none.
