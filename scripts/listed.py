@@ -46,6 +46,7 @@ NEEDS: dict[str, Callable[[], bool]] = {
     "fish": lambda: shutil.which("fish") is not None,
     "lintian": lambda: shutil.which("lintian") is not None,
     "debootstrap": lambda: shutil.which("debootstrap") is not None,
+    "rt": lambda: shutil.which("rt") is not None,
     "root": lambda: os.geteuid() == 0,
     "index_bench": lambda: (TOP / "crates" / "index_bench" / "out" / "index_bench").is_file(),
 }

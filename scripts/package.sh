@@ -5,15 +5,21 @@
 #     scripts/package.sh tar    dist/cbrowse-VERSION-SYSTEM.tar.gz, to be unpacked below a prefix,
 #                               and dist/cbrowse-VERSION.tar.gz, the sources of the last commit
 #
-# The version is the one that the program tells. The same files give the same bytes: times are those
-# of the last commit. The maintainer of the Debian package is DEBFULLNAME with DEBEMAIL, or the
-# author of that commit.
+# The version is the one that the program tells, and a program that is not proved is not packed. The
+# same files give the same bytes: times are those of the last commit. The maintainer of the Debian
+# package is DEBFULLNAME with DEBEMAIL, or the author of that commit.
 
 set -eu
 umask 022
 cd "$(dirname "$0")/.."
 version=$(bin/cbrowse --version 2>&1)
 version=${version#cbrowse }
+case $version in
+*', not proved')
+    echo 'bin/cbrowse is not proved, so it is not packed; make proves and builds it' >&2
+    exit 1
+    ;;
+esac
 SOURCE_DATE_EPOCH=$(git log -1 --format=%ct)
 export SOURCE_DATE_EPOCH
 root=$(mktemp -d)

@@ -17,6 +17,7 @@ from __future__ import annotations
 import hashlib
 import os
 import pathlib
+import signal
 import subprocess
 import sys
 import time
@@ -80,6 +81,8 @@ def prove(crate: str) -> bool:
 
 
 def main() -> int:
+    # an interrupt ends it without a word
+    signal.signal(signal.SIGINT, signal.SIG_DFL)
     program = sys.argv[1] if len(sys.argv) > 1 else "cbrowse"
     below = stands_on()
     crates = [it for it in below if it in needed(program, below)]

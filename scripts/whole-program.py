@@ -1,7 +1,8 @@
 #!/usr/bin/env python3
 """Runs the program on words and files, and compares all that it writes with what it should.
 
-    scripts/whole-program.py [PROGRAM]      bin/cbrowse, if none is named
+    scripts/whole-program.py [PROGRAM]                  bin/cbrowse, if none is named
+    scripts/whole-program.py --not-proved [PROGRAM]     one of `make quick`, whose version says so
 
 `make test` runs it on the program that it built. Each row below is the words, what standard output
 and standard error have, the exit status, and the tags file that is then there. Help and the texts
@@ -215,7 +216,7 @@ Example: cbrowse find 1 main a.c
 
 
 NOTES = (TOP / "docs" / "RELEASES.md").read_text()
-VERSION = b"cbrowse %s\n" % re.findall(r"^## (\S+)", NOTES, re.MULTILINE)[0].encode()
+VERSION = b"cbrowse " + re.findall(r"^## (\S+)", NOTES, re.MULTILINE)[0].encode()
 
 
 class Row(NamedTuple):
@@ -466,8 +467,6 @@ ROWS = [
     help_of(["tags", "--help"], HELP_TAGS),
     help_of(["help", "tags"], HELP_TAGS),
     help_of(["lsp", "--help"], HELP_LSP),
-    help_of(["--version"], VERSION),
-    help_of(["-V"], VERSION),
 ]
 
 # a session over a.c: a question, tags, a listing, marks, a change and an undo
@@ -864,7 +863,6 @@ class Checks:
             (1, b"", b"cbrowse: f4097.c: too many files\n"),
         )
 
-
     def lists(self):
         """Lists of more files than are in one history of 65,536 changes, and of the most bytes."""
         bits = ("./", ".//")
@@ -905,11 +903,14 @@ def main():
     parser.add_argument(
         "program", nargs="?", default=str(TOP / "bin" / "cbrowse"), metavar="PROGRAM"
     )
-    program = str(pathlib.Path(parser.parse_args().program).resolve())
+    parser.add_argument("--not-proved", action="store_true", help="it is a program of make quick")
+    given = parser.parse_args()
+    program = str(pathlib.Path(given.program).resolve())
+    version = VERSION + (b", not proved\n" if given.not_proved else b"\n")
     with tempfile.TemporaryDirectory() as room:
         os.chmod(room, 0o755)  # so that a run without the rights of root finds it
         checks = Checks(program, pathlib.Path(room))
-        for row in ROWS:
+        for row in [*ROWS, help_of(["--version"], version), help_of(["-V"], version)]:
             checks.row(row)
         for check in (
             checks.at_each_byte,
