@@ -30,6 +30,7 @@ CRATES = [
     "cb_wire",
     "cb_index",
     "cb_desk",
+    "cb_macros",
     "cb_lsp",
     "cb_session",
     "cb_words",

@@ -48,7 +48,7 @@ SMALL = {"df": "echo free; echo disk 9 9 740000 9% /"}
 DISK = {
     "make": "0.7 GB of disk are free in ., and proving takes 3 GB",
     "quick": "0.7 GB of disk are free in /tmp, and compiling takes 1 GB",
-    "test": "0.7 GB of disk are free in ., and proving takes 5 GB",
+    "test": "0.7 GB of disk are free in ., and proving takes 1 GB",
 }
 
 
