@@ -20,8 +20,9 @@ ASCII. An editor that is not there is passed over. What they have to be told was
     Calls     the editor's own commands list references, complete a name and, in nvim, list calls.
               Calls are walked in both directions, over files; those that are typed count
     Rename    the editor's own command renames a function over three files, of which one is open:
-              their buffers have the new name, and one undo in each brings the old one back. Where
-              the new name cannot be taken, the reason is told and no buffer changes
+              their buffers have the new name, and one undo in each brings the old one back. So it
+              is with a parameter, in its function alone. Where the new name cannot be taken, the
+              reason is told and no buffer changes
     Names     a hard link leads to a file that would be edited, or a link to it is open: the rename
               is refused, or each place has the new name once
     Branch    git checks out another branch, in which definitions moved, and goes back. Where eglot
@@ -549,7 +550,7 @@ def questions(plan: Plan) -> None:
     plan.ask("definition", shape, 7, 15, is_now=[(shape, 5, 29, 31)])
     plan.ask("uses", shape, 7, 15, is_now=[(shape, 7, 15, 17)])
     plan.ask("marks", shape, 7, 15, is_now=[(5, 29, 31), (7, 15, 17)])
-    plan.ask("prepare", shape, 7, 15, is_now=None)
+    plan.ask("prepare", shape, 7, 15, is_now=(7, 15, 17))
     plan.jump(shape, 3, 8, [(shape, 1, 38)])
     plan.jump(main, 11, 29, [(shape, 5, 4)])
     plan.jump(main, 6, 12, [(header, 2, 8)])
@@ -668,6 +669,21 @@ def calls(plan: Plan, editor: str) -> None:
     plan.look("complete", main, 6, 4, is_now=lambda told: told[0] == ["grovel", "grow"])
 
 
+def parameter(plan: Plan) -> None:
+    """A rename of a parameter, which has the name of another one, and back."""
+    shape = "src/shape.c"
+    place, old = (shape, 7, 15), TREE[shape]
+    new = old.replace("area(const struct shape *it)", "area(const struct shape *one)")
+    new = new.replace("helper(it)", "helper(one)")
+    is_used = "name is used already"
+    plan.look("rename", *place, "helper", is_now=lambda told: told[0].endswith(is_used))
+    plan.ask("rename", *place, is_now=[(shape, 5, 29, 31), (shape, 7, 15, 17)])
+    plan.look("rename", *place, "one", is_now=[])
+    plan.texts({shape: new})
+    plan.do("undo", shape)
+    plan.texts({shape: old})
+
+
 def renames(plan: Plan) -> None:
     """A rename over three files, of which one is open, and back."""
     main, shape, header = files = "src/main.c", "src/shape.c", "src/shape.h"
@@ -697,6 +713,7 @@ def renames(plan: Plan) -> None:
     plan.texts(once)
     plan.do("undo", main)
     plan.texts(old)
+    parameter(plan)
     plan.look("rename", shape, 5, 4, "surface", is_now=[])  # from its definition
     plan.texts(new)
 
