@@ -26,6 +26,8 @@ ask       `definition`, `hover` and `documentHighlight` at a thousand names in t
           1,000 functions of its file call, and of one that calls these; `documentSymbol` of files
           of nearly 1,000 lines; `workspace/symbol` by parts of names, and by texts that no name
           holds. The last two look at all names, unless 1,000 of them hold the text.
+locals    `definition`, `hover`, `documentHighlight` and `rename` at up to a hundred variables of
+          functions, in a document of 50 kB and in one of 1 MB, and how many are renamed.
 change    `didChange` of a document of 50 kB and of one of 1 MB, each time another text: until a
           `documentSymbol` of a tiny document behind it is answered; and the same where one letter
           is sent, which changes at its place, also with a `definition` in the tiny document behind
@@ -70,6 +72,7 @@ ASKED = 1000  # questions of each kind
 SEARCHES = 200
 MUCH_USED = 50  # names among which the most used one is
 CHANGES = 200
+VARIABLES = 100  # of a document that are asked about
 LONG = 20  # documents of nearly 1,000 lines
 FEW = 20  # files of clangd
 FEW_ASKED = 200
@@ -79,10 +82,11 @@ SIZES = {"50 kB": 50_000, "1 MB": 990_000}
 MANY_CHANGES = 20, 2000
 LONG_LINES = 12_500, 25_000  # bytes
 MOST_CHANGES = 65_537
-PARTS = "ready", "ask", "change", "memory", "line", "clangd"
+PARTS = "ready", "ask", "locals", "change", "memory", "line", "clangd"
 TINY, TINY_TEXT = "tiny.c", "int tiny(void) {\n}\n"
 BIG = "big.c"
 NAME = re.compile(rb"[A-Za-z_]\w+")
+VARIABLE = re.compile(r"^[ \t]+int (\w+)(?= =|;)", re.MULTILINE)
 INCLUDE = re.compile(rb"^[ \t]*#[ \t]*include[ \t]*[\"<]([!-~]+)[\">]", re.MULTILINE)
 
 
@@ -467,6 +471,35 @@ def ask(cbrowse, names, folder, there, dice):
     server.end()
 
 
+def variables(text, dice):
+    """Where some lines declare a variable of a function."""
+    found = [
+        (BIG, text.count("\n", 0, it.start(1)), it.start(1) - text.rfind("\n", 0, it.start(1)) - 1)
+        for it in VARIABLE.finditer(text)
+    ]
+    return dice.sample(found, min(len(found), VARIABLES))
+
+
+def put_locals(cbrowse, names, folder, dice):
+    """Questions at variables of functions, and renames of them."""
+    server = Server([cbrowse, "lsp", "--"] + names[: MOST_FILES - 1], folder)
+    server.ask(frame("workspace/symbol", {"query": "main"}, 1))
+    nothing = put_nothing(server)
+    for label, size in SIZES.items():
+        text = text_of(folder, names, size)
+        server.open(BIG, text)
+        found = variables(text, dice)
+        for method in "definition", "hover", "documentHighlight":
+            asked = at_places(server, f"textDocument/{method}", found)
+            put_all(f"{method}, a local, {label}", server, asked, nothing)
+        asked = at_places(server, "textDocument/rename", found, newName="renamed_by_the_bench")
+        put_all(f"rename, a local, {label}", server, asked, nothing)
+        renamed = sum(b'"changes"' in server.ask(message)[0] for message in asked)
+        print(f"{'':<34}{renamed} of {len(asked)} are renamed")
+        server.tell("textDocument/didClose", server.document(BIG))
+    server.end()
+
+
 def changes(server, folder, names, size, count):
     """Messages that change a document of that size, each followed by a question about another."""
     texts = [text_of(folder, names, size, number) for number in range(2)]
@@ -613,6 +646,8 @@ def main():
             ask(given.cbrowse, names, folder, there, dice)
             renames(given.cbrowse, folder)
             calls(given.cbrowse, folder)
+        if "locals" in parts:
+            put_locals(given.cbrowse, names, folder, dice)
         if "change" in parts:
             change(given.cbrowse, names, folder)
         if "memory" in parts:
