@@ -17,10 +17,9 @@ the processor to guess wrong. Its cache fetches nothing ahead, and its table of 
 so a real processor misses and errs less. What large pages gain is what the processor waits for
 addresses of memory to be looked up.
 
-Memory is told apart: what a session has resident at most until it is ready, and what it holds on
-the heap, by the functions that took it, as `valgrind --tool=massif` has them: those that took one
-part in 200 or more of it. Most of what `grow_amortized` took is room for the indexes, which becomes
-resident only when they are put in order.
+Memory is what a session holds on the heap when it is ready, by the functions that took it, as
+`valgrind --tool=massif` has them: those that took one part in 200 or more of it.
+`bench/ready.py` says what is resident.
 
 It takes ten minutes. Counts do not depend on what else runs on the machine; times do.
 """
@@ -209,13 +208,8 @@ def held(words, folder):
 
 
 def memory(bench):
-    words = bench.words(Work(["line"]), bench.all)
-    process = subprocess.Popen(
-        words, cwd=bench.folder, stdin=subprocess.DEVNULL, stdout=subprocess.DEVNULL
-    )
-    resident = os.wait4(process.pid, 0)[2].ru_maxrss * 1024
-    heap, places = held(words, bench.folder)
-    told = [(resident, "resident"), (heap, "on the heap")]
+    heap, places = held(bench.words(Work(["line"]), bench.all), bench.folder)
+    told = [(heap, "on the heap")]
     large = [place for place in places if place[0] * 200 > heap]
     told += [(took, "  " + name) for took, name in sorted(large, reverse=True)]
     for took, name in told:
