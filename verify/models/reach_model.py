@@ -62,7 +62,7 @@ class Macro(NamedTuple):
 
     @property
     def names(self):
-        """The names of the text that are no parameters, by place."""
+        """The names of the text other than its parameters, by place."""
         names = [token.text for token in self.text.tokens if token.is_name]
         return [name for name in names if name not in self.parameters]
 
