@@ -1,7 +1,7 @@
 -- The names that declarations and lists of parameters declare, and the lists of parameters in them
 -- (ISO C 2011, 6.7.6, found in tokens by this project's profile).
 use Rattle.std.specs.Prelude.{ℕ, zero, suc, ◌+◌, Bool, true, false, ◌&&◌, ◌||◌, ◌==◌, ◌++◌}
-use Rattle.std.specs.Prelude.{nat_lt, List, [], ◌∷◌, drop, find, length, map, take}
+use Rattle.std.specs.Prelude.{nat_lt, List, [], ◌∷◌, drop, find, length, map, not, take}
 use Rattle.std.specs.Prelude.{if◌then◌else◌, Option, None, Some, slice_index_or, unwrap_or, ◌-◌}
 use Rattle.std.specs.Option.{option_map_or}
 use Rattle.cb_scan.specs.Bytes.{close_paren, colon, comma, equals, open_brace, open_paren, semicolon}
@@ -207,12 +207,15 @@ is_external xs n [] = false
 is_external xs n (k ∷ ks) =
     (n == 0 && is_extern_word (at xs k).token.role) || is_external xs (open_behind xs n k) ks
 
--- the declaration that begins at index i: an external one declares nothing here
+-- the declaration that begins at index i: an external one declares nothing in a block
 abbrev pub found_in_declaration : List Item → (of_list : Bool) → ℕ → Finding
 found_in_declaration xs of_list i =
     let ks = tokens_between xs i (stop xs i) in
     let f = found_in_parts xs of_list (suc (length ks)) true ks in
-    record { names = if is_external xs 0 ks then [] else f.names; lists = f.lists }
+    record {
+      names = if not of_list && is_external xs 0 ks then [] else f.names;
+      lists = f.lists;
+    }
 
 -- a parameter, from an index up to an end: it is the first part there
 abbrev pub found_in_parameter : List Item → (start end : ℕ) → Finding
