@@ -42,6 +42,13 @@ arguments_at xs k = record {
 abbrev pub arguments_of : List Item → List Arguments
 arguments_of xs = those_where (arguments_at xs) (has_arguments xs) (length xs)
 
+-- index k is a name that is not directly before a `(`
+abbrev pub is_lone : List Item → ℕ → Bool
+is_lone xs k = is_name_at xs k && not (is_at open_paren xs (suc k))
+
+abbrev pub lone_of : List Item → List Span
+lone_of xs = those_where (λ k. span (at xs k)) (is_lone xs) (length xs)
+
 -- ---- names of which the rules cannot tell what they mean
 
 -- an operand ends directly before index k
@@ -107,13 +114,15 @@ is_whole xs r more = ends_itself xs (body_of xs r) && not (has_hard xs) && not m
 -- ---- all of it
 
 -- what is known of a function: from its first token to its end; all names of its code; those that are
--- not of attributes that are left out everywhere, those of them that have arguments, and those of
--- which the rules cannot tell what they mean; and whether all of it is there
+-- not of attributes that are left out everywhere, those of them that have arguments, those that are
+-- not before a `(`, and those of which the rules cannot tell what they mean; and whether all of it is
+-- there
 pub record FunctionNames : Type 0 where
   pub extent : Span
   pub names : List Span
   pub own : List Span
   pub arguments : List Arguments
+  pub lone : List Span
   pub unsure : List Span
   pub whole : Bool
 
@@ -129,6 +138,7 @@ names_by xs kept r more = record {
   names = names_of xs;
   own = names_of kept;
   arguments = arguments_of kept;
+  lone = lone_of kept;
   unsure = unsure_of kept;
   whole = is_whole kept r more;
 }

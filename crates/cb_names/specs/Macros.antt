@@ -46,6 +46,11 @@ has_tag = has_kind kind_has_tag
 abbrev pub list_len : List Token → ℕ
 list_len ts = prefix_len (λ (t : Token). not (is_mark close_paren t.role)) ts
 
+-- it takes arguments: a `(` directly follows its name
+abbrev pub has_list : List Token → Bool
+has_list [] = false
+has_list (name ∷ rest) = begin_arguments name rest
+
 -- the tokens among which its parameters are: from the `(` that directly follows its name
 abbrev pub listed : List Token → List Token
 listed [] = []
@@ -134,14 +139,17 @@ are_odd text ps ts = list_any (is_odd text ps ts) (range_with_len 0 (length ts))
 
 -- ---- a macro
 
--- what is known of one: the names of its text, and whether that alone makes it odd
+-- what is known of one: whether it takes arguments, the names of its text, and whether that alone
+-- makes it odd
 pub record MacroParts : Type 0 where
+  pub takes : Bool
   pub names : List MacroName
   pub odd : Bool
 
 -- by the tokens of its line in these bytes
 abbrev pub parts_by : List ℕ → List Token → MacroParts
 parts_by text ts = record {
+  takes = has_list ts;
   names = own_names text (listed ts) (replacement ts);
   odd = are_odd text (listed ts) (replacement ts);
 }

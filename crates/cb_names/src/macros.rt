@@ -6,7 +6,7 @@ ghost use Rattle.cb_scan.specs.CodeTokens.{IsSpanOf};
 ghost use Rattle.cb_scan.specs.rules.Depth.{token_at};
 ghost use Rattle.cb_scan.specs.rules.Macros.{begin_arguments};
 ghost use Rattle.cb_names.specs.Macros.{adjoins, are_odd, ends_arrow, follows_maker, follows_operand};
-ghost use Rattle.cb_names.specs.Macros.{has_tag, is_hash, is_listed, is_made, is_member, is_odd, is_own_name};
+ghost use Rattle.cb_names.specs.Macros.{has_list, has_tag, is_hash, is_listed, is_made, is_member, is_odd, is_own_name};
 ghost use Rattle.cb_names.specs.Macros.{is_parameter, is_tag, list_len, listed, macro_name};
 ghost use Rattle.cb_names.specs.Macros.{macro_parts, marks, name_at, names, own_names, replacement};
 ghost use Rattle.cb_names.specs.Macros.{parts_by, takes_member};
@@ -28,6 +28,7 @@ pub struct MacroName {
 /// What is known of a macro.
 #[derive(Drop)]
 pub struct Macro {
+    takes: bool,
     names: Vec<MacroName>,
     odd: bool,
 }
@@ -37,10 +38,17 @@ impl Model for Macro {
 
     ghost Value = { MacroParts };
 
-    ghost view = { λ m. record { names = m.names.items; odd = m.odd } };
+    ghost view = { λ m. record { takes = m.takes; names = m.names.items; odd = m.odd } };
 }
 
 impl Macro {
+    /// Whether it takes arguments: a `(` directly follows its name.
+    pub fn takes_arguments(&self) -> bool
+        ensures { result ≡ self.now.takes }
+    {
+        self.takes
+    }
+
     /// The names of its text that are none of its parameters, by place.
     pub fn names(&self) -> &[MacroName]
         ensures { result.now ≡ self.now.names }
@@ -324,6 +332,16 @@ fn list_len(tokens: &[Token]) -> usize
         .count()
 }
 
+/// Whether a macro takes arguments.
+fn has_list(tokens: &[Token]) -> bool
+    ensures { result ≡ has_list tokens.now }
+{
+    match tokens {
+        [name, rest @ ..] => begin_arguments(name, rest),
+        [] => false,
+    }
+}
+
 /// The tokens of a macro among which its parameters are.
 fn listed(tokens: &[Token]) -> &[Token]
     ensures { result.now ≡ listed tokens.now }
@@ -359,6 +377,7 @@ fn parts(alloc: Global, bytes: &[u8], tokens: &[Token]) -> Result<Macro, AllocEr
     };
     let names = text.own_names(alloc)?;
     Ok(Macro {
+        takes: has_list(tokens),
         names,
         odd: text.are_odd(),
     })

@@ -9,7 +9,7 @@ ghost use Rattle.cb_names.specs.FunctionNames.{arguments_at, arguments_of, ends_
 ghost use Rattle.cb_names.specs.FunctionNames.{follows_label_sign, function_names, goes_on};
 ghost use Rattle.cb_names.specs.FunctionNames.{has_arguments, has_hard, is_in_body, is_lone_end};
 ghost use Rattle.cb_names.specs.FunctionNames.{is_unsure, is_whole, names_by, names_in, names_of, next_name};
-ghost use Rattle.cb_names.specs.FunctionNames.{unsure_of};
+ghost use Rattle.cb_names.specs.FunctionNames.{is_lone, lone_of, unsure_of};
 ghost use Rattle.cb_names.specs.Functions.{items};
 ghost use Rattle.cb_names.specs.HardAttributes.{without_hard};
 ghost use Rattle.cb_names.specs.Pairs.{innermost, partner};
@@ -43,6 +43,7 @@ pub struct FunctionNames {
     names: Vec<Span>,
     own: Vec<Span>,
     arguments: Vec<Arguments>,
+    lone: Vec<Span>,
     unsure: Vec<Span>,
     whole: bool,
 }
@@ -57,6 +58,7 @@ impl Model for FunctionNames {
       names = f.names.items;
       own = f.own.items;
       arguments = f.arguments.items;
+      lone = f.lone.items;
       unsure = f.unsure.items;
       whole = f.whole;
     } };
@@ -89,6 +91,13 @@ impl FunctionNames {
         ensures { result.now ≡ self.now.arguments }
     {
         self.arguments.as_slice()
+    }
+
+    /// Those of them that are not directly before a `(`, by place.
+    pub fn lone(&self) -> &[Span]
+        ensures { result.now ≡ self.now.lone }
+    {
+        self.lone.as_slice()
     }
 
     /// Those of which the rules cannot tell what they mean: they stand in the body of a structure,
@@ -233,6 +242,27 @@ fn push_span_if(is_wanted: bool, one: Span, found: &mut Vec<Span>) -> Result<(),
     Ok(())
 }
 
+/// Whether a token is a name that is not directly before a `(`.
+fn is_lone(items: &[Item], at: u32) -> bool
+    requires few { length items.now < 2 ^ 32 }
+    requires within { at < length items.now }
+    ensures { result ≡ is_lone items.now at }
+{
+    is_name_at(items, at) && sign(items, at + 1) != b'('
+}
+
+/// All such names.
+fn lone_of(alloc: Global, items: &[Item]) -> Result<Vec<Span>, AllocError>
+    requires { length items.now < 2 ^ 32 }
+    ensures { IfOk result (λ found. found.items ≡ lone_of items.now) }
+{
+    let mut found = Vec::new(alloc);
+    for at in 0..items.len() as u32 {
+        push_span_if(is_lone(items, at), span_at(items, at), &mut found)?;
+    }
+    Ok(found)
+}
+
 /// All names of which the rules cannot tell what they mean.
 fn unsure_of(alloc: Global, items: &[Item], around: &[Option<u32>]) -> Result<Vec<Span>, AllocError>
     requires few { length items.now < 2 ^ 32 }
@@ -371,6 +401,7 @@ fn names_by(
     let kept = kept.as_slice();
     let own = names_of(alloc, kept)?;
     let arguments = arguments_of(alloc, kept)?;
+    let lone = lone_of(alloc, kept)?;
     let pairs = pairs_of(alloc, kept)?;
     let unsure = unsure_of(alloc, kept, pairs.around.as_slice())?;
     Ok(FunctionNames {
@@ -381,6 +412,7 @@ fn names_by(
         names,
         own,
         arguments,
+        lone,
         unsure,
         whole: is_whole(kept, pairs.around.as_slice(), range, goes_on),
     })

@@ -53,6 +53,7 @@ fn a_function_has_names_and_arguments(rt: HostRuntime) -> Result<(), Fail> {
     assert!(rt; with.len() == 3 && with[0].name.start == 11 && with[0].end == 18);
     assert!(rt; with[1].name.start == 48 && with[1].end == 57);
     assert!(rt; with[2].name.start == 53 && with[2].end == 56);
+    assert!(rt; begin_at(function.lone(), &[17, 50, 55, 62]));
     assert!(rt; function.unsure().is_empty() && function.is_whole());
     Ok(())
 }
@@ -119,6 +120,9 @@ fn macros_make_something_else_of_arguments(rt: HostRuntime) -> Result<(), Fail> 
     }
     let source = source_of(&rt, b"H(a) (a)->b")?;
     assert!(rt; !macro_at(rt.alloc(), &source, 0)?.is_odd());
+    assert!(rt; macro_at(rt.alloc(), &source, 0)?.takes_arguments());
+    let source = source_of(&rt, b"J (a)")?;
+    assert!(rt; !macro_at(rt.alloc(), &source, 0)?.takes_arguments());
     assert!(rt; takes_member(b"__builtin_offsetof") && !takes_member(b"offset"));
     Ok(())
 }
