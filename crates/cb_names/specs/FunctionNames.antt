@@ -4,20 +4,21 @@ use Rattle.std.specs.Prelude.{ℕ, zero, suc, ◌+◌, ◌-◌, Bool, true, fals
 use Rattle.std.specs.Prelude.{◌∷◌, filter, find, length, map, Option, unwrap_or}
 use Rattle.std.specs.List.{list_any, range_with_len}
 use Rattle.std.specs.Option.{option_map, option_map_or}
-use Rattle.cb_scan.specs.Bytes.{close_brace, open_brace, open_paren}
+use Rattle.cb_scan.specs.Bytes.{close_brace, open_paren}
 use Rattle.cb_scan.specs.Profiles.{ranges_in}
 use Rattle.cb_scan.specs.declared.lex.piece.Span.{Span}
 use Rattle.cb_scan.specs.declared.profile.Rules.TheVariants.{Wide}
 use Rattle.cb_scan.specs.declared.rules.scope.Range.{Range}
 use Rattle.cb_names.specs.Accesses.{ampersand, ends_operand}
-use Rattle.cb_names.specs.Braces.{follows_keyword, follows_separator, is_name_at}
+use Rattle.cb_names.specs.Braces.{follows_separator, is_name_at, kind_at}
 use Rattle.cb_names.specs.Declarations.{is_name_item}
 use Rattle.cb_names.specs.Functions.{before, body_of, extent, function_at, items, own_items, start}
 use Rattle.cb_names.specs.HardAttributes.{is_hard}
 use Rattle.cb_names.specs.Labels.{span}
 use Rattle.cb_names.specs.Pairs.{at, innermost, is_at, is_index, partner}
+use Rattle.cb_names.specs.Scoped.{follows_enum, is_body}
 use Rattle.cb_names.specs.Spaces.{touches}
-use Rattle.cb_names.specs.Statements.{is_lone_colon}
+use Rattle.cb_names.specs.Statements.{in_block, is_lone_colon}
 use Rattle.cb_names.specs.Tables.{those_where}
 use Rattle.cb_names.specs.declared.names.Arguments.{Arguments}
 use Rattle.cb_names.specs.declared.word.Item.{Item}
@@ -64,21 +65,25 @@ follows_label_sign xs (suc (suc k)) =
     is_at ampersand xs (suc k) && is_at ampersand xs k && touches xs k
     && not (follows_operand xs k)
 
--- index k names what a value is given to, in the old way: it begins the value, and a colon follows
-abbrev pub is_old_designator : List Item → ℕ → Bool
-is_old_designator xs k = follows_separator xs k && is_lone_colon xs (k + 1)
+-- index k names what a value is given to, in the old way: it begins the value, and a colon follows.
+-- In a block it is a label
+abbrev pub is_old_designator : List Item → (b : ℕ) → ℕ → Bool
+is_old_designator xs b k =
+    follows_separator xs k && is_lone_colon xs (k + 1) && not (in_block xs b k)
 
--- the innermost bracket around index k is the `{` of a structure, union or enumeration
-abbrev pub is_in_body : List Item → ℕ → Bool
-is_in_body xs k =
-    option_map_or (λ j. is_at open_brace xs j && follows_keyword xs j) (innermost xs k) false
+-- the innermost bracket around index k is the `{` of a structure or union
+abbrev pub is_in_structure : List Item → (b : ℕ) → ℕ → Bool
+is_in_structure xs b k =
+    option_map_or (λ j. is_body (kind_at xs b j) && not (follows_enum xs j)) (innermost xs k) false
 
-abbrev pub is_unsure : List Item → ℕ → Bool
-is_unsure xs k =
-    is_name_at xs k && (follows_label_sign xs k || is_old_designator xs k || is_in_body xs k)
+abbrev pub is_unsure : List Item → (b : ℕ) → ℕ → Bool
+is_unsure xs b k =
+    is_name_at xs k
+    && (follows_label_sign xs k || is_old_designator xs b k || is_in_structure xs b k)
 
-abbrev pub unsure_of : List Item → List Span
-unsure_of xs = those_where (λ k. span (at xs k)) (is_unsure xs) (length xs)
+-- in a function whose body begins at index b
+abbrev pub unsure_of : List Item → (b : ℕ) → List Span
+unsure_of xs b = those_where (λ k. span (at xs k)) (is_unsure xs b) (length xs)
 
 -- ---- functions that are not whole
 
@@ -107,9 +112,9 @@ goes_on xs rs r =
     list_any (is_lone_end xs)
     (range_with_len (before r.end xs) (next_name xs rs r - before r.end xs))
 
--- all of a function is there, where it is known whether it goes on
-abbrev pub is_whole : List Item → Range → (more : Bool) → Bool
-is_whole xs r more = ends_itself xs (body_of xs r) && not (has_hard xs) && not more
+-- all of a function is there whose body begins at index b, where it is known whether it goes on
+abbrev pub is_whole : List Item → (b : ℕ) → (more : Bool) → Bool
+is_whole xs b more = ends_itself xs b && not (has_hard xs) && not more
 
 -- ---- all of it
 
@@ -131,17 +136,25 @@ abbrev pub first_start : List Item → ℕ
 first_start [] = 0
 first_start (x ∷ xs) = start x
 
--- by its tokens, those of them that are left in, its range, and whether it goes on
-abbrev pub names_by : (xs kept : List Item) → Range → (more : Bool) → FunctionNames
-names_by xs kept r more = record {
-  extent = record { start = first_start xs; end = r.end };
-  names = names_of xs;
+-- by its extent, all its names, the tokens that are left in, where its body begins among these, and
+-- whether it goes on
+abbrev pub names_over : Span → List Span → (kept : List Item) → (b : ℕ) → (more : Bool)
+    → FunctionNames
+names_over extent names kept b more = record {
+  extent = extent;
+  names = names;
   own = names_of kept;
   arguments = arguments_of kept;
   lone = lone_of kept;
-  unsure = unsure_of kept;
-  whole = is_whole kept r more;
+  unsure = unsure_of kept b;
+  whole = is_whole kept b more;
 }
+
+-- by its tokens, those of them that are left in, its range, and whether it goes on
+abbrev pub names_by : (xs kept : List Item) → Range → (more : Bool) → FunctionNames
+names_by xs kept r more =
+    names_over (record { start = first_start xs; end = r.end }) (names_of xs) kept (body_of kept r)
+    more
 
 -- by all tokens and all functions
 abbrev pub names_in : List Item → List Range → Range → FunctionNames

@@ -1,27 +1,36 @@
 //! The names of the function around a place, and which of them have arguments.
 ghost use Rattle.std.specs.Prelude.{◌≡◌, ◌<◌, ◌≤◌, ◌-◌, ◌^◌, ◌++◌, ◌∷◌, [], IfErr, IfOk, find, length};
-ghost use Rattle.std.specs.Prelude.{if◌then◌else◌, nat_le, nat_lt};
+ghost use Rattle.std.specs.Prelude.{◌&&◌, if◌then◌else◌, nat_le, nat_lt, not};
 ghost use Rattle.std.specs.Option.{option_map};
 ghost use Rattle.std.specs.List.{list_any, range_with_len};
 ghost use Rattle.cb_scan.specs.declared.rules.scope.Range.{Range as FunctionRange};
 ghost use Rattle.cb_names.specs.Declarations.{is_name_item};
 ghost use Rattle.cb_names.specs.FunctionNames.{arguments_at, arguments_of, ends_itself, first_start};
 ghost use Rattle.cb_names.specs.FunctionNames.{follows_label_sign, function_names, goes_on};
-ghost use Rattle.cb_names.specs.FunctionNames.{has_arguments, has_hard, is_in_body, is_lone_end};
-ghost use Rattle.cb_names.specs.FunctionNames.{is_unsure, is_whole, names_by, names_in, names_of, next_name};
+ghost use Rattle.cb_names.specs.FunctionNames.{has_arguments, has_hard, is_in_structure};
+ghost use Rattle.cb_names.specs.FunctionNames.{is_lone_end, is_old_designator};
+ghost use Rattle.cb_names.specs.FunctionNames.{is_unsure, is_whole, names_by, names_in, names_of};
+ghost use Rattle.cb_names.specs.FunctionNames.{names_over, next_name};
 ghost use Rattle.cb_names.specs.FunctionNames.{is_lone, lone_of, unsure_of};
 ghost use Rattle.cb_names.specs.Functions.{items};
 ghost use Rattle.cb_names.specs.HardAttributes.{without_hard};
 ghost use Rattle.cb_names.specs.Pairs.{innermost, partner};
+ghost use Rattle.cb_names.specs.Braces.{is_block, kind_at};
+ghost use Rattle.cb_names.specs.Scoped.{follows_enum, is_body};
+ghost use Rattle.cb_names.specs.Shapes.{IsShape};
+ghost use Rattle.cb_names.specs.Statements.{in_block};
 ghost use Rattle.cb_names.specs.Tables.{IsTable};
 
 use crate::accesses::ends_operand;
-use crate::braces::{follows_separator, is_name_at};
+use crate::braces::{Brace, follows_separator, is_name_at};
+use crate::declared::enums_of;
 use crate::function::{before, body_of, extent, function_among, items_of};
 use crate::hard::without_hard;
 use crate::labels::span_at;
 use crate::pairs::{answer, pairs_of, sign};
-use crate::spaces::{follows_keyword, start_at, touches};
+use crate::scopes::flag;
+use crate::shape::{Shape, shape_of};
+use crate::spaces::{start_at, touches};
 use crate::statements::is_lone_colon;
 use crate::word::{Item, Word};
 use cb_scan::{Range, Rules, ScanError, Source, Span, code_tokens, function_ranges};
@@ -206,29 +215,75 @@ fn follows_label_sign(items: &[Item], at: u32) -> bool
         && !(at > 2 && ends_operand(items, at - 3))
 }
 
-/// Whether the innermost bracket around a token is the `{` of a structure, union or enumeration.
-fn is_in_body(items: &[Item], around: &[Option<u32>], at: u32) -> bool
-    requires within { at < length items.now }
-    requires around { IsTable (innermost items.now) (length items.now) around.now }
-    ensures { result ≡ is_in_body items.now at }
+/// Whether a bracket is the `{` of a block.
+fn opens_block(shape: &Shape, bracket: u32) -> bool
+    requires shape { IsShape shape.now }
+    requires within { bracket < length shape.now.items.items }
+    ensures { result ≡ is_block (kind_at shape.now.items.items shape.now.body bracket) }
 {
-    match answer(around, at) {
-        Some(bracket) => sign(items, bracket) == b'{' && follows_keyword(items, bracket),
+    matches!(shape.kinds.as_slice()[bracket as usize], Brace::Block)
+}
+
+/// Whether the innermost bracket around a token is.
+fn is_in_block(shape: &Shape, at: u32) -> bool
+    requires shape { IsShape shape.now }
+    requires within { at < length shape.now.items.items }
+    ensures { result ≡ in_block shape.now.items.items shape.now.body at }
+{
+    match shape.around(at) {
+        Some(bracket) => opens_block(shape, bracket),
         None => false,
     }
 }
 
-/// Whether a token is a name of which the rules cannot tell what it means.
-fn is_unsure(items: &[Item], around: &[Option<u32>], at: u32) -> bool
-    requires few { length items.now < 2 ^ 32 }
-    requires within { at < length items.now }
-    requires around { IsTable (innermost items.now) (length items.now) around.now }
-    ensures { result ≡ is_unsure items.now at }
+/// Whether a bracket is the `{` of a structure or union.
+fn opens_structure(shape: &Shape, enums: &[bool], bracket: u32) -> bool
+    requires shape { IsShape shape.now }
+    requires enums { IsTable (follows_enum shape.now.items.items) (length shape.now.items.items)
+        enums.now }
+    requires within { bracket < length shape.now.items.items }
+    ensures { result ≡ (is_body (kind_at shape.now.items.items shape.now.body bracket)
+        && not (follows_enum shape.now.items.items bracket)) }
 {
-    is_name_at(items, at)
-        && (follows_label_sign(items, at)
-            || (follows_separator(items, at) && is_lone_colon(items, at + 1))
-            || is_in_body(items, around, at))
+    matches!(shape.kinds.as_slice()[bracket as usize], Brace::Body) && !flag(enums, bracket)
+}
+
+/// Whether the innermost bracket around a token is.
+fn is_in_structure(shape: &Shape, enums: &[bool], at: u32) -> bool
+    requires shape { IsShape shape.now }
+    requires enums { IsTable (follows_enum shape.now.items.items) (length shape.now.items.items)
+        enums.now }
+    requires within { at < length shape.now.items.items }
+    ensures { result ≡ is_in_structure shape.now.items.items shape.now.body at }
+{
+    match shape.around(at) {
+        Some(bracket) => opens_structure(shape, enums, bracket),
+        None => false,
+    }
+}
+
+/// Whether a token names what a value is given to, in the old way.
+fn is_old_designator(shape: &Shape, at: u32) -> bool
+    requires shape { IsShape shape.now }
+    requires within { at < length shape.now.items.items }
+    ensures { result ≡ is_old_designator shape.now.items.items shape.now.body at }
+{
+    let items = shape.items.as_slice();
+    follows_separator(items, at) && is_lone_colon(items, at + 1) && !is_in_block(shape, at)
+}
+
+/// Whether a token is a name of which the rules cannot tell what it means.
+fn is_unsure(shape: &Shape, enums: &[bool], at: u32) -> bool
+    requires shape { IsShape shape.now }
+    requires enums { IsTable (follows_enum shape.now.items.items) (length shape.now.items.items)
+        enums.now }
+    requires within { at < length shape.now.items.items }
+    ensures { result ≡ is_unsure shape.now.items.items shape.now.body at }
+{
+    is_name_at(shape.items.as_slice(), at)
+        && (follows_label_sign(shape.items.as_slice(), at)
+            || is_old_designator(shape, at)
+            || is_in_structure(shape, enums, at))
 }
 
 /// Appends a span, if it is wanted.
@@ -264,14 +319,16 @@ fn lone_of(alloc: Global, items: &[Item]) -> Result<Vec<Span>, AllocError>
 }
 
 /// All names of which the rules cannot tell what they mean.
-fn unsure_of(alloc: Global, items: &[Item], around: &[Option<u32>]) -> Result<Vec<Span>, AllocError>
-    requires few { length items.now < 2 ^ 32 }
-    requires around { IsTable (innermost items.now) (length items.now) around.now }
-    ensures { IfOk result (λ found. found.items ≡ unsure_of items.now) }
+fn unsure_of(alloc: Global, shape: &Shape) -> Result<Vec<Span>, AllocError>
+    requires { IsShape shape.now }
+    ensures { IfOk result
+        (λ found. found.items ≡ unsure_of shape.now.items.items shape.now.body) }
 {
+    let items = shape.items.as_slice();
+    let enums = enums_of(alloc, items)?;
     let mut found = Vec::new(alloc);
     for at in 0..items.len() as u32 {
-        push_span_if(is_unsure(items, around, at), span_at(items, at), &mut found)?;
+        push_span_if(is_unsure(shape, enums.as_slice(), at), span_at(items, at), &mut found)?;
     }
     Ok(found)
 }
@@ -377,13 +434,40 @@ fn first_start(items: &[Item]) -> u32
 }
 
 /// Whether all of a function is there.
-fn is_whole(items: &[Item], around: &[Option<u32>], range: Range, goes_on: bool) -> bool
-    requires few { length items.now < 2 ^ 32 }
-    requires around { IsTable (innermost items.now) (length items.now) around.now }
-    ensures { result ≡ is_whole items.now range goes_on }
+fn is_whole(shape: &Shape, goes_on: bool) -> bool
+    requires { IsShape shape.now }
+    ensures { result ≡ is_whole shape.now.items.items shape.now.body goes_on }
 {
-    let body = body_of(items, range) as u32;
-    ends_itself(items, around, body) && !has_hard(items) && !goes_on
+    let items = shape.items.as_slice();
+    ends_itself(items, shape.pairs.around.as_slice(), shape.body) && !has_hard(items) && !goes_on
+}
+
+/// What is known of a function, by its extent, all its names, the tokens that are left in, and
+/// whether it goes on.
+fn names_over(
+    alloc: Global,
+    extent: Span,
+    names: Vec<Span>,
+    shape: &Shape,
+    goes_on: bool,
+) -> Result<FunctionNames, AllocError>
+    requires { IsShape shape.now }
+    ensures { IfOk result (λ f. f ≡ names_over extent names.items shape.now.items.items
+        shape.now.body goes_on) }
+{
+    let own = names_of(alloc, shape.items.as_slice())?;
+    let arguments = arguments_of(alloc, shape.items.as_slice())?;
+    let lone = lone_of(alloc, shape.items.as_slice())?;
+    let unsure = unsure_of(alloc, shape)?;
+    Ok(FunctionNames {
+        extent,
+        names,
+        own,
+        arguments,
+        lone,
+        unsure,
+        whole: is_whole(shape, goes_on),
+    })
 }
 
 /// What is known of a function, by its tokens, its range, and whether it goes on.
@@ -396,26 +480,18 @@ fn names_by(
     requires { length items.now < 2 ^ 32 }
     ensures { IfOk result (λ f. f ≡ names_by items.now (without_hard items.now) range goes_on) }
 {
+    let extent = Span {
+        start: first_start(items),
+        end: range.end,
+    };
     let names = names_of(alloc, items)?;
     let kept = without_hard(alloc, items)?;
-    let kept = kept.as_slice();
-    let own = names_of(alloc, kept)?;
-    let arguments = arguments_of(alloc, kept)?;
-    let lone = lone_of(alloc, kept)?;
-    let pairs = pairs_of(alloc, kept)?;
-    let unsure = unsure_of(alloc, kept, pairs.around.as_slice())?;
-    Ok(FunctionNames {
-        extent: Span {
-            start: first_start(items),
-            end: range.end,
-        },
-        names,
-        own,
-        arguments,
-        lone,
-        unsure,
-        whole: is_whole(kept, pairs.around.as_slice(), range, goes_on),
-    })
+    let body = body_of(kept.as_slice(), range) as u32;
+    let shape = shape_of(alloc, kept, body)?;
+    match names_over(alloc, extent, names, &shape, goes_on) {
+        Ok(names) => Ok(names),
+        Err(error) => Err(error),
+    }
 }
 
 /// The same by all tokens and all functions.

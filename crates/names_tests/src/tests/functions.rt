@@ -79,6 +79,12 @@ fn names_of_which_the_rules_are_not_sure(rt: HostRuntime) -> Result<(), Fail> {
         return Err(Fail::new("no function"));
     };
     assert!(rt; begin_at(function.unsure(), &[29, 46, 60]));
+    let text = b"void f(void) { enum { a, b } c; { d: goto d; } }";
+    let source = source_of(&rt, text)?;
+    let Some(function) = function_names(rt.alloc(), &source, 7)? else {
+        return Err(Fail::new("no function"));
+    };
+    assert!(rt; function.unsure().is_empty());
     Ok(())
 }
 
