@@ -32,7 +32,7 @@ fn function_of<'a>(sort: FactKind, spot: FactSpot<'a>) -> &'a [u8]
 }
 
 /// Where the name in the function column stands in the text, if it is there.
-fn function_span(sort: FactKind, facts: &Facts, item: u32) -> Option<Span>
+pub(crate) fn function_span(sort: FactKind, facts: &Facts, item: u32) -> Option<Span>
     ensures { result ≡ function_span sort facts.now item }
 {
     match sort {
