@@ -1,14 +1,14 @@
 //! What a version keeps of each of its uses and calls beside the facts: a hash of its key, by which
 //! those of one key are found, and whether its row is that of an earlier one.
 ghost use Rattle.std.specs.Prelude.{◌≡◌, ◌+◌, ◌%◌, ◌≤◌, ℕ, IfOk, IfSome, OnOk, Some, List, [], length};
-ghost use Rattle.std.specs.Prelude.{map, max, unwrap_or, vec_capacity};
+ghost use Rattle.std.specs.Prelude.{map, max, nat_eq, unwrap_or, vec_capacity};
 ghost use Rattle.std.specs.Borrow.{Bor};
 ghost use Rattle.std.specs.Cmp.Lexicographic.{slice_cmp};
-ghost use Rattle.std.specs.List.{range_with_len};
+ghost use Rattle.std.specs.List.{list_any, range_with_len};
 ghost use Rattle.std.specs.Option.{option_or};
 ghost use Rattle.std.specs.Ordering.{is_eq, nat_cmp};
-ghost use Rattle.cb_index.specs.Columns.{AreColumns, AreFlagged, cells_to, column_for, column_of};
-ghost use Rattle.cb_index.specs.Columns.{flag_of, is_near, with_flags};
+ghost use Rattle.cb_index.specs.Columns.{AreColumns, AreFar, AreFlagged, cells_to, column_for};
+ghost use Rattle.cb_index.specs.Columns.{column_of, flag_of, is_near, with_flags};
 ghost use Rattle.cb_index.specs.Hash.{hash, key_end};
 ghost use Rattle.cb_index.specs.Items.{item_count};
 ghost use Rattle.cb_index.specs.declared.columns.Cell.{Cell};
@@ -140,6 +140,50 @@ pub(crate) fn is_near(cells: &[Cell], item: u32, hash: u32) -> bool
         Some(cell) => cell.hash == hash,
         None => true,
     }
+}
+
+/// So many cells are compared at once.
+const BLOCK: usize = 16;
+
+/// Whether one of some cells has a hash. All are looked at, so that many are compared at once.
+fn any_near(cells: &[Cell], hash: u32) -> bool
+    ensures { result ≡ list_any (λ (c : Cell). nat_eq c.hash hash) cells.now }
+{
+    let mut found = false;
+    for one in cells {
+        found |= one.hash == hash;
+    }
+    found
+}
+
+/// Passes blocks of cells, from an item on, in which none has a hash.
+fn pass_blocks(cells: &[Cell], from: usize, hash: u32) -> usize
+    ensures from { from ≤ result }
+    ensures far { AreFar cells.now from result hash }
+{
+    let mut at = from;
+    while at.saturating_add(BLOCK) <= cells.len() {
+        if any_near(&cells[at..at + BLOCK], hash) {
+            return at;
+        }
+        at += BLOCK;
+    }
+    at
+}
+
+/// The next item, from one on, that may have a key of a hash; behind the last one if none has.
+pub(crate) fn next_near(cells: &[Cell], from: usize, hash: u32) -> usize
+    ensures from { from ≤ result }
+    ensures far { AreFar cells.now from result hash }
+{
+    let mut at = pass_blocks(cells, from, hash);
+    while at < cells.len() {
+        if cells[at].hash == hash {
+            return at;
+        }
+        at += 1;
+    }
+    at
 }
 
 // ---- signatures
