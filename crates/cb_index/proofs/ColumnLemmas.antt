@@ -19,7 +19,7 @@ use Rattle.cb_index.specs.Hash.{hash}
 use Rattle.cb_index.specs.Bytes.{bytes_at}
 use Rattle.cb_index.specs.Items.{have_one_key, item_count, item_key, item_span}
 use Rattle.cb_index.specs.Scanned.{Scanned, facts_of}
-use Rattle.cb_index.specs.declared.columns.Cell.{Cell}
+use Rattle.cb_index.specs.Cells.{Cell}
 use Rattle.cb_index.specs.declared.entry.FactKind.{FactKind}
 use Rattle.cb_index.specs.declared.entry.FactKind.TheVariants.{Uses, Callees, Callers}
 use Rattle.cb_index.proofs.CompactLemmas.{all_at}

@@ -3,11 +3,11 @@ use Rattle.std.specs.Prelude.{ℕ, ◌≡◌, ◌≤◌, ◌<◌, ◌%◌, Bool,
 use Rattle.std.specs.Prelude.{List, [], ◌∷◌, get_or, length, map, slice_get, slice_set}
 use Rattle.std.specs.List.{AllByRecursion, range_with_len}
 use Rattle.std.specs.Option.{option_map_or}
+use Rattle.cb_index.specs.Cells.{Cell}
 use Rattle.cb_index.specs.Hash.{hash}
 use Rattle.cb_index.specs.Items.{item_count, item_key}
 use Rattle.cb_index.specs.Repeats.{is_repeat}
 use Rattle.cb_index.specs.Scanned.{Scanned}
-use Rattle.cb_index.specs.declared.columns.Cell.{Cell}
 use Rattle.cb_index.specs.declared.entry.FactKind.{FactKind}
 use Rattle.cb_index.specs.declared.entry.FactKind.TheVariants.{Uses, Callees, Callers}
 

@@ -1,17 +1,17 @@
 //! What a version keeps of each of its uses and calls beside the facts: a hash of its key, by which
 //! those of one key are found, and whether its row is that of an earlier one.
-ghost use Rattle.std.specs.Prelude.{◌≡◌, ◌+◌, ◌%◌, ◌≤◌, ℕ, IfOk, IfSome, OnOk, Some, List, [], length};
-ghost use Rattle.std.specs.Prelude.{map, max, nat_eq, unwrap_or, vec_capacity};
+ghost use Rattle.std.specs.Prelude.{◌≡◌, ◌+◌, ◌%◌, ◌^◌, ◌<◌, ◌≤◌, ℕ, IfOk, IfSome, OnOk, Some, List};
+ghost use Rattle.std.specs.Prelude.{[], length, map, max, nat_eq, unwrap_or, vec_capacity};
 ghost use Rattle.std.specs.Borrow.{Bor};
 ghost use Rattle.std.specs.Cmp.Lexicographic.{slice_cmp};
 ghost use Rattle.std.specs.List.{list_any, range_with_len};
 ghost use Rattle.std.specs.Option.{option_or};
 ghost use Rattle.std.specs.Ordering.{is_eq, nat_cmp};
+ghost use Rattle.cb_index.specs.Cells.{Cell};
 ghost use Rattle.cb_index.specs.Columns.{AreColumns, AreFar, AreFlagged, cells_to, column_for};
 ghost use Rattle.cb_index.specs.Columns.{column_of, flag_of, is_near, with_flags};
 ghost use Rattle.cb_index.specs.Hash.{hash, key_end};
 ghost use Rattle.cb_index.specs.Items.{item_count};
-ghost use Rattle.cb_index.specs.declared.columns.Cell.{Cell};
 ghost use Rattle.cb_index.specs.declared.entry.FactKind.TheVariants.{Callees, Callers};
 ghost use Rattle.cb_index.specs.steps.Numbering.{Knows, first_shown, function_at, known_as};
 ghost use Rattle.cb_index.specs.steps.Numbering.{number_of, some_if};
@@ -27,13 +27,47 @@ use std::marker::Model;
 
 // ---- what is kept
 
-/// What is kept of an item.
-#[derive(Clone, Copy, Debug, PartialEq, Eq)]
+/// What is kept of an item: a hash of its key, and whether an item before it has its key and its
+/// row.
+#[derive(Debug, Drop)]
 pub(crate) struct Cell {
-    /// A hash of its key.
-    pub hash: u32,
-    /// Whether an item before it has its key and its row.
-    pub repeat: bool,
+    /// Twice the hash, and one more for a repeat.
+    bits: u32,
+}
+
+impl Model for Cell {
+    ghost use Rattle.std.specs.Prelude.{◌/◌, ◌%◌, nat_eq};
+    ghost use Rattle.cb_index.specs.Cells as cells;
+
+    ghost Value = { cells.Cell };
+
+    ghost view = { λ c. record { hash = c.bits / 2; repeat = nat_eq (c.bits % 2) 1 } };
+}
+
+impl Cell {
+    /// A cell.
+    fn new(hash: u32, repeat: bool) -> Cell
+        requires { hash < 2 ^ 31 }
+        ensures { result ≡ record { hash = hash; repeat = repeat } }
+    {
+        Cell {
+            bits: hash * 2 + repeat as u32,
+        }
+    }
+
+    /// The hash.
+    pub(crate) fn hash(&self) -> u32
+        ensures { result ≡ self.now.hash }
+    {
+        self.bits / 2
+    }
+
+    /// Whether it is that of a repeat.
+    pub(crate) fn repeat(&self) -> bool
+        ensures { result ≡ self.now.repeat }
+    {
+        self.bits % 2 == 1
+    }
 }
 
 /// The cells of the uses of a text, of its calls by the called name and of its calls by the name
@@ -119,17 +153,18 @@ fn key_end(key: &[u8]) -> u64
     }
 }
 
-/// A key as a number of 32 bits. Where it differs in any bit of its first bytes, of its last ones
+/// A key as a number of 31 bits. Where it differs in any bit of its first bytes, of its last ones
 /// or of its length, many of these bits differ.
 #[tactic(auto, unfolding(crate::specs::Hash::hash))]
 pub(crate) fn hash(key: &[u8]) -> u32
-    ensures { result ≡ hash key.now }
+    ensures value { result ≡ hash key.now }
+    ensures small { result < 2 ^ 31 }
 {
     let whole = key_prefix(key)
         .wrapping_add(key_end(key).wrapping_mul(SPREAD))
         .wrapping_add(key.len() as u64);
     let folded = whole.wrapping_add(whole >> 32);
-    (folded.wrapping_mul(SPREAD) >> 32) as u32
+    (folded.wrapping_mul(SPREAD) >> 33) as u32
 }
 
 /// Whether an item may have a key of a hash: it has none where its cell has another one.
@@ -137,7 +172,7 @@ pub(crate) fn is_near(cells: &[Cell], item: u32, hash: u32) -> bool
     ensures { result ≡ is_near cells.now item hash }
 {
     match cells.get(item as usize) {
-        Some(cell) => cell.hash == hash,
+        Some(cell) => cell.hash() == hash,
         None => true,
     }
 }
@@ -151,7 +186,7 @@ fn any_near(cells: &[Cell], hash: u32) -> bool
 {
     let mut found = false;
     for one in cells {
-        found |= one.hash == hash;
+        found |= one.hash() == hash;
     }
     found
 }
@@ -178,7 +213,7 @@ pub(crate) fn next_near(cells: &[Cell], from: usize, hash: u32) -> usize
 {
     let mut at = pass_blocks(cells, from, hash);
     while at < cells.len() {
-        if cells[at].hash == hash {
+        if cells[at].hash() == hash {
             return at;
         }
         at += 1;
@@ -214,7 +249,7 @@ fn set_flags(flags: &mut [bool], cells: &[Cell])
     ensures len { length flags.new ≡ length flags.old }
 {
     for cell in cells {
-        let place = flag_place(cell.hash, flags.len());
+        let place = flag_place(cell.hash(), flags.len());
         if place < flags.len() {
             flags[place] = true;
         }
@@ -305,11 +340,10 @@ fn column_by_lines(
 {
     let mut cells = room_for(alloc, count_in(sort, text))?;
     for item in 0..count_in(sort, text) {
-        let cell = Cell {
-            hash: hash(key_in(sort, text, item as u32)),
-            repeat: search_repeat(sort, text, cells.as_slice(), item as u32),
-        };
-        let _ = cells.push(cell);
+        let _ = cells.push(Cell::new(
+            hash(key_in(sort, text, item as u32)),
+            search_repeat(sort, text, cells.as_slice(), item as u32),
+        ));
     }
     Ok(cells)
 }
@@ -452,10 +486,7 @@ fn column_by_rows(
         let Ok(new) = rows.insert((line, numbers[item], key)) else {
             return Err(OutOfMemory);
         };
-        let _ = cells.push(Cell {
-            hash: hash(key),
-            repeat: !new,
-        });
+        let _ = cells.push(Cell::new(hash(key), !new));
     }
     Ok(cells)
 }
@@ -473,11 +504,10 @@ fn callers_of(
     let _count = count_in(FactKind::Callees, text);
     let mut cells = room_for(alloc, callees.len())?;
     for (item, callee) in callees.iter().enumerate() {
-        let cell = Cell {
-            hash: hash(key_in(FactKind::Callers, text, item as u32)),
-            repeat: callee.repeat,
-        };
-        let _ = cells.push(cell);
+        let _ = cells.push(Cell::new(
+            hash(key_in(FactKind::Callers, text, item as u32)),
+            callee.repeat(),
+        ));
     }
     Ok(cells)
 }

@@ -128,7 +128,7 @@ pub(crate) fn is_repeat(sort: FactKind, version: &Version, item: u32) -> bool
 {
     let column = version.column(sort);
     match column.get(item as usize) {
-        Some(cell) => cell.repeat,
+        Some(cell) => cell.repeat(),
         None => search_repeat(sort, version.text(), column, item),
     }
 }

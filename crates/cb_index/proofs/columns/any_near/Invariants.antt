@@ -1,7 +1,7 @@
 use Rattle.std.proofs.Common.{◌≡◌}
 use Rattle.std.specs.Prelude.{nat_eq, take}
 use Rattle.std.specs.List.{list_any}
-use Rattle.cb_index.specs.declared.columns.Cell.{Cell}
+use Rattle.cb_index.specs.Cells.{Cell}
 use Rattle.cb_index.proofs.columns.any_near.Given as goal
 
 abbrev pub invariant-loop-one : goal.invariant-loop-one

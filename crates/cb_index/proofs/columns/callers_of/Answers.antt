@@ -7,7 +7,7 @@ use Rattle.cb_index.specs.Columns.{cell_of}
 use Rattle.cb_index.specs.Hash.{hash}
 use Rattle.cb_index.specs.Items.{item_count}
 use Rattle.cb_index.specs.Repeats.{is_repeat}
-use Rattle.cb_index.specs.declared.columns.Cell.{Cell}
+use Rattle.cb_index.specs.Cells.{Cell}
 use Rattle.cb_index.specs.declared.entry.FactKind.TheVariants.{Callees, Callers}
 use Rattle.cb_index.proofs.NumberLemmas.{one_repeat}
 use Rattle.cb_index.proofs.columns.callers_of.Goals as goal
@@ -45,7 +45,7 @@ loop-item-preserved c =
     ∙ one_repeat text n below in
     let cell : record { hash = c.hash.result; repeat = (get_or c.args.callees.now n none).repeat }
     ≡ cell_of Callers text n =
-    λ i. record { hash = (c.hash.ensures ∙ ap hash c.key_in.ensures) i; repeat = repeat i } in
+    λ i. record { hash = (c.hash.ensures.value ∙ ap hash c.key_in.ensures) i; repeat = repeat i } in
     let more = map-range_with_len_more (cell_of Callers text) 0 n n (omega arith) in
     record {
       cells = grind (arith, common_steps, more, cell);

@@ -7,7 +7,7 @@ use Rattle.cb_index.specs.Hash.{hash}
 use Rattle.cb_index.specs.Items.{item_count, item_line}
 use Rattle.cb_index.specs.Repeats.{is_repeat}
 use Rattle.cb_index.specs.Scanned.{facts_of}
-use Rattle.cb_index.specs.declared.columns.Cell.{Cell}
+use Rattle.cb_index.specs.Cells.{Cell}
 use Rattle.cb_index.specs.steps.Numbering.{Row, number_of}
 use Rattle.cb_index.proofs.NumberLemmas.{IsRowOf, is_again, rows_more, rows_none}
 use Rattle.cb_index.proofs.columns.column_by_rows.Goals as goal
@@ -48,7 +48,7 @@ loop-item-preserved c =
     c.in-Ok.ensures.added in
     let cell : record { hash = c.hash.result; repeat = not c.in-Ok.new } ≡ cell_of sort text n =
     λ i. record {
-      hash = (c.hash.ensures ∙ ap hash c.key_in-key.ensures) i;
+      hash = (c.hash.ensures.value ∙ ap hash c.key_in-key.ensures) i;
       repeat = again i;
     } in
     let more = map-range_with_len_more (cell_of sort text) 0 n n (omega arith) in

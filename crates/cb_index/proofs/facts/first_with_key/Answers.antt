@@ -10,7 +10,7 @@ use Rattle.cb_index.proofs.facts.first_with_key.Goals as goal
 pub loop-item-init : goal.loop-item-init
 loop-item-init c = λ before low.
     far_keys c.args.sort c.args.version.now c.column-cells.result.now c.args.key.now 0
-    c.next_near-item.result c.hash-hash.result c.column-cells.ensures c.hash-hash.ensures
+    c.next_near-item.result c.hash-hash.result c.column-cells.ensures c.hash-hash.ensures.value
     c.next_near-item.ensures.far before (omega arith) low
 
 pub returns-then-eq-clause-first : goal.returns-then-eq-clause-first
@@ -46,7 +46,7 @@ loop-item-preserved c = λ before low.
     (λ (behind : item + 1 ≤ before).
     far_keys sort text c.column-cells.result.now key (item + 1)
     c.next_near-item-in-loop-item.result c.hash-hash.result c.column-cells.ensures
-    c.hash-hash.ensures c.next_near-item-in-loop-item.ensures.far before behind low)
+    c.hash-hash.ensures.value c.next_near-item-in-loop-item.ensures.far before behind low)
     (cases_lt before (item + 1)))
     (cases_lt before item)
 
@@ -63,5 +63,5 @@ returns-then-not-may_have-clause-items c =
     let sort = c.args.sort in
     let text = c.args.version.now in
     none_with sort text c.args.key.now
-    (subst (λ h. HasNone h (column_of sort text)) c.hash-hash.ensures
+    (subst (λ h. HasNone h (column_of sort text)) c.hash-hash.ensures.value
     (c.may_have.ensures sort c.if-not-may_have.true))

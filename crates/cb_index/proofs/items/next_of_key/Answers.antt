@@ -14,7 +14,7 @@ loop-next-init c =
     skipped (have_one_key sort text item) (item_count sort text) (item + 1) next
     c.next_near-next.ensures.from
     (far_keys sort text c.column-cells.result.now (item_key sort text item) (item + 1) next
-    c.hash-hash.result c.column-cells.ensures (c.hash-hash.ensures ∙ ap hash c.item_key.ensures)
+    c.hash-hash.result c.column-cells.ensures (c.hash-hash.ensures.value ∙ ap hash c.item_key.ensures)
     c.next_near-next.ensures.far)
     ∙ later_begun sort text item
 
@@ -33,7 +33,7 @@ loop-next-preserved c =
     skipped (have_one_key sort text item) (item_count sort text) (at + 1) next
     c.next_near-next-in-loop-next.ensures.from
     (far_keys sort text c.column-cells.result.now (item_key sort text item) (at + 1) next
-    c.hash-hash.result c.column-cells.ensures (c.hash-hash.ensures ∙ ap hash c.item_key.ensures)
+    c.hash-hash.result c.column-cells.ensures (c.hash-hash.ensures.value ∙ ap hash c.item_key.ensures)
     c.next_near-next-in-loop-next.ensures.far)
     ∙ later_passed sort text item at below isnt ∙ c.loop-next.invariant
 
