@@ -1,24 +1,29 @@
 -- The cells of items, and what one with another hash tells.
-use Rattle.std.proofs.Common.{◌≡◌, ◌∙◌, ◌<◌, ◌≤◌, ℕ, Bool, true, false, List, Some, None, refl, sym}
-use Rattle.std.proofs.Common.{ap, length, get_or, arith, ◌⊎◌, inl, inr}
+use Rattle.std.proofs.Common.{◌≡◌, ◌∙◌, ◌+◌, ◌-◌, ◌<◌, ◌≤◌, ℕ, zero, suc, Bool, true, false, List, ◌∷◌}
+use Rattle.std.proofs.Common.{Some, None, refl, sym, ap, filter, length, get_or, drop, arith, ◌⊎◌, inl}
+use Rattle.std.proofs.Common.{inr, ⊎_elim}
 use Rattle.std.proofs.lemmas.Bool.{cases_lt, true≢false}
 use Rattle.std.proofs.lemmas.Bool.Decides.{Decides-eqb}
+use Rattle.std.proofs.lemmas.List.{get_or-drop, get_or-take, length-drop, length-take}
+use Rattle.std.proofs.lemmas.List.Folds.{list_any_at}
 use Rattle.std.proofs.lemmas.List.FromFn.{get_or-map-range_with_len, length-map-range_with_len}
 use Rattle.std.proofs.lemmas.Option.{slice_get-get_or, slice_get_past}
 use Rattle.std.proofs.lemmas.Slice.Eq.{bytes_eq-Decides}
-use Rattle.std.specs.Prelude.{nat_eq, slice_get}
+use Rattle.std.specs.Prelude.{cond, nat_eq, slice_get, take}
+use Rattle.std.specs.List.{list_any, range_with_len}
 use Rattle.std.specs.Option.{option_map_or}
 use Rattle.std.specs.Str.{bytes_eq}
-use Rattle.cb_index.specs.Columns.{AreColumns, Columned, HasNone, cell_of, cells_to, column_for}
-use Rattle.cb_index.specs.Columns.{column_of, is_near}
+use Rattle.cb_index.specs.Columns.{AreColumns, AreFar, Columned, HasNone, cell_of, cells_to}
+use Rattle.cb_index.specs.Columns.{column_for, column_of, is_near}
 use Rattle.cb_index.specs.Hash.{hash}
 use Rattle.cb_index.specs.Bytes.{bytes_at}
 use Rattle.cb_index.specs.Items.{have_one_key, item_count, item_key, item_span}
 use Rattle.cb_index.specs.Scanned.{Scanned, facts_of}
-use Rattle.cb_index.specs.declared.columns.Cell.{Cell}
+use Rattle.cb_index.specs.Cells.{Cell}
 use Rattle.cb_index.specs.declared.entry.FactKind.{FactKind}
 use Rattle.cb_index.specs.declared.entry.FactKind.TheVariants.{Uses, Callees, Callers}
 use Rattle.cb_index.proofs.CompactLemmas.{all_at}
+use Rattle.cb_index.proofs.RangeItems.{range_next}
 
 not_true : (b : Bool) → (b ≡ true → true ≡ false) → b ≡ false
 not_true true never = never refl
@@ -95,3 +100,80 @@ pub one_key : (text : Scanned) (sort : FactKind) (a b : ℕ)
 one_key text sort a b is =
     sym ((bytes_eq-Decides (item_key sort text a) (item_key sort text b)).1
     (ap (bytes_at text.bytes) is))
+
+-- ---- items that may not have a hash
+is_far : (cells : List Cell) (k hash : ℕ) (d : Cell) → k < length cells
+    → nat_eq (get_or cells k d).hash hash ≡ false → is_near cells k hash ≡ false
+is_far cells k hash d below isnt =
+    ap (λ o. option_map_or (λ (c : Cell). nat_eq c.hash hash) o true)
+    (slice_get-get_or cells k d below)
+    ∙ isnt
+
+-- none of a block has the hash
+pub block_far : (cells : List Cell) (from at to hash : ℕ) → AreFar cells from at hash
+    → to ≤ length cells
+    → list_any (λ (c : Cell). nat_eq c.hash hash) (take (to - at) (drop at cells)) ≡ false
+    → AreFar cells from to hash
+block_far cells from at to hash far within none k low up = ⊎_elim
+    (λ (early : k < at). far k low early)
+    (λ (late : at ≤ k).
+    let there : k - at < length block =
+    omega (arith, late, up, within, length-take (to - at) (drop at cells), length-drop at cells) in
+    let under : k - at < to - at = omega (arith, late, up) in
+    let back : at + (k - at) ≡ k = omega (arith, late) in
+    let same : get_or block (k - at) no_cell ≡ get_or cells k no_cell =
+    get_or-take (to - at) (drop at cells) (k - at) no_cell under
+    ∙ get_or-drop at cells (k - at) no_cell ∙ ap (λ m. get_or cells m no_cell) back in
+    is_far cells k hash no_cell (omega (arith, up, within))
+    (sym (ap (λ (c : Cell). nat_eq c.hash hash) same)
+    ∙ not_true (nat_eq (get_or block (k - at) no_cell).hash hash)
+    (λ is.
+    sym (list_any_at (λ (c : Cell). nat_eq c.hash hash) block (k - at) no_cell there is) ∙ none)))
+    (cases_lt k at)
+  where
+    block : List Cell
+    block = take (to - at) (drop at cells)
+
+    no_cell : Cell
+    no_cell = record { hash = 0; repeat = false }
+
+-- what passes a test is not among the items that are passed
+pub skipped : (p : ℕ → Bool) (count from to : ℕ) → from ≤ to
+    → ((k : ℕ) → from ≤ k → k < to → p k ≡ false)
+    → filter p (range_with_len to (count - to)) ≡ filter p (range_with_len from (count - from))
+skipped p count from zero low none =
+    let same : 0 ≡ from = omega (arith, low) in
+    ap (λ n. filter p (range_with_len n (count - n))) same
+skipped p count from (suc to) low none = ⊎_elim
+    (λ (under : from < suc to).
+    one (none to (omega (arith, under)) (omega arith))
+    ∙ skipped p count from to (omega (arith, under))
+    (λ k up below. none k up (omega (arith, below))))
+    (λ (past : suc to ≤ from).
+    let same : suc to ≡ from = omega (arith, low, past) in
+    ap (λ n. filter p (range_with_len n (count - n))) same)
+    (cases_lt from (suc to))
+  where
+    after : List ℕ
+    after = filter p (range_with_len (suc to) (count - suc to))
+
+    one : p to ≡ false → after ≡ filter p (range_with_len to (count - to))
+    one isnt = ⊎_elim
+        (λ (below : to < count).
+        let more : count - to ≡ suc (count - suc to) = omega (arith, below) in
+        sym (ap (λ n. filter p (range_with_len to n)) more
+        ∙ ap (filter p) (range_next to (count - suc to)) ∙ ap (λ b. cond b (to ∷ after) after) isnt))
+        (λ (past : count ≤ to).
+        let here : count - to ≡ 0 = omega (arith, past) in
+        let next : count - suc to ≡ 0 = omega (arith, past) in
+        ap (λ n. filter p (range_with_len (suc to) n)) next
+        ∙ sym (ap (λ n. filter p (range_with_len to n)) here))
+        (cases_lt to count)
+
+-- and so they have not the key
+pub far_keys : (sort : FactKind) (text : Scanned) (cells : List Cell) (key : List ℕ) (from to h : ℕ)
+    → cells ≡ column_of sort text → h ≡ hash key → AreFar cells from to h
+    → (k : ℕ) → from ≤ k → k < to → bytes_eq key (item_key sort text k) ≡ false
+far_keys sort text cells key from to h are is far k low up =
+    far_key sort text cells (item_count sort text) k key are
+    (sym (ap (is_near cells k) is) ∙ far k low up)

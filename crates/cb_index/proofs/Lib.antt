@@ -20,9 +20,9 @@ pub mod ItemLemmas
 pub mod ItemLines
 pub mod KeptLemmas
 pub mod ListedLemmas
-pub mod MarkLemmas
 pub mod NameLemmas
 pub mod NewRowLemmas
+pub mod NumberLemmas
 pub mod OrderingLemmas
 pub mod PrefixLemmas
 pub mod PutLemmas

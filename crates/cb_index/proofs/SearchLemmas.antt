@@ -22,7 +22,7 @@ use Rattle.cb_index.specs.declared.entry.Shown.{Shown}
 use Rattle.cb_index.specs.declared.entry.FactKind.{FactKind}
 use Rattle.cb_index.specs.Columns.{HasNone, column_of}
 use Rattle.cb_index.specs.Hash.{hash}
-use Rattle.cb_index.proofs.ColumnLemmas.{far_from}
+use Rattle.cb_index.proofs.ColumnLemmas.{far_from, skipped}
 use Rattle.cb_index.proofs.FactLemmas.{named_apart, one_searched}
 use Rattle.cb_index.proofs.FirstLemmas.{has, is_first_of_key, same_test}
 use Rattle.cb_index.proofs.NewRowLemmas.{rows_counted, rows_new}
@@ -56,21 +56,25 @@ module _ (sort : FactKind) (text : Scanned) (key : List ℕ) where
       (filter_agree (have_one_key sort text k) (has sort text key) (same_test sort text key k is)
       (range_with_len (suc k) (item_count sort text - suc k))))
 
+  -- where none before an item has the key, those that have it are left
+  pub with_behind : (k : ℕ) → ((before : ℕ) → before < k → has sort text key before ≡ false)
+      → items_with sort text key ≡ with_from k
+  with_behind k none =
+      let all : item_count sort text ≡ item_count sort text - 0 = omega arith in
+      ap (λ n. filter (has sort text key) (range_with_len 0 n)) all
+      ∙ sym (skipped (has sort text key) (item_count sort text) 0 k (omega arith)
+      (λ before low. none before))
+
+  pub with_past : (k : ℕ) → item_count sort text ≤ k → with_from k ≡ []
+  with_past k past =
+      let none : item_count sort text - k ≡ 0 = omega (arith, past) in
+      ap (λ n. filter (has sort text key) (range_with_len k n)) none
+
   -- where no cell has the hash of the key, no item has the key
   pub none_with : HasNone (hash key) (column_of sort text) → items_with sort text key ≡ []
   none_with none =
-      let all : item_count sort text - 0 ≡ item_count sort text = omega arith in
-      sym (ap (λ n. filter (has sort text key) (range_with_len 0 n)) all)
-      ∙ from (item_count sort text) 0 (omega arith)
-    where
-      from : (n k : ℕ) → k + n ≡ item_count sort text → with_from k ≡ []
-      from zero k all =
-          let past : item_count sort text - k ≡ 0 = omega (arith, all) in
-          ap (λ m. filter (has sort text key) (range_with_len k m)) past
-      from (suc n) k all =
-          let below : k < item_count sort text = omega (arith, all) in
-          sym (with_passed k below (far_from sort text key k below none))
-          ∙ from n (suc k) (omega (arith, all))
+      with_behind (item_count sort text) (λ before low. far_from sort text key before low none)
+      ∙ with_past (item_count sort text) (omega arith)
 
   module _ (file : List ℕ) where
     abbrev fact : ℕ → Fact

@@ -10,7 +10,7 @@ use Rattle.cb_scan.proofs.FunctionsRise.{all_implied}
 use Rattle.cb_index.specs.Columns.{AreColumns, AreFlagged, Columned, HasNone, column_for}
 use Rattle.cb_index.specs.Columns.{column_of, flag_of, flag_place, with_flag, with_flags}
 use Rattle.cb_index.specs.Scanned.{Scanned}
-use Rattle.cb_index.specs.declared.columns.Cell.{Cell}
+use Rattle.cb_index.specs.Cells.{Cell}
 use Rattle.cb_index.specs.declared.entry.FactKind.{FactKind}
 use Rattle.cb_index.specs.declared.entry.FactKind.TheVariants.{Uses, Callees, Callers}
 use Rattle.cb_index.proofs.ColumnLemmas.{column_is}

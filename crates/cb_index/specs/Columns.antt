@@ -1,13 +1,13 @@
 -- What a version keeps beside its uses and calls, so that those of one key are found by a number.
-use Rattle.std.specs.Prelude.{ℕ, ◌≡◌, ◌%◌, Bool, false, true, nat_eq, nat_lt, if◌then◌else◌, max}
+use Rattle.std.specs.Prelude.{ℕ, ◌≡◌, ◌≤◌, ◌<◌, ◌%◌, Bool, false, true, nat_eq, nat_lt, if◌then◌else◌, max}
 use Rattle.std.specs.Prelude.{List, [], ◌∷◌, get_or, length, map, slice_get, slice_set}
 use Rattle.std.specs.List.{AllByRecursion, range_with_len}
 use Rattle.std.specs.Option.{option_map_or}
+use Rattle.cb_index.specs.Cells.{Cell}
 use Rattle.cb_index.specs.Hash.{hash}
 use Rattle.cb_index.specs.Items.{item_count, item_key}
 use Rattle.cb_index.specs.Repeats.{is_repeat}
 use Rattle.cb_index.specs.Scanned.{Scanned}
-use Rattle.cb_index.specs.declared.columns.Cell.{Cell}
 use Rattle.cb_index.specs.declared.entry.FactKind.{FactKind}
 use Rattle.cb_index.specs.declared.entry.FactKind.TheVariants.{Uses, Callees, Callers}
 
@@ -83,3 +83,7 @@ pub record AreColumns (text : Scanned) (c : Columned) : Type 0 where
 -- whether an item may have a key of a hash: it has none where its cell has another one
 abbrev pub is_near : List Cell → ℕ → ℕ → Bool
 is_near cells item hash = option_map_or (λ (c : Cell). nat_eq c.hash hash) (slice_get cells item) true
+
+-- no item from one up to another may have it
+abbrev pub AreFar : List Cell → ℕ → ℕ → ℕ → Type 0
+AreFar cells from to hash = (k : ℕ) → from ≤ k → k < to → is_near cells k hash ≡ false

@@ -1,4 +1,4 @@
--- A key as a number of 32 bits, by which most keys are told apart.
+-- A key as a number of 31 bits, by which most keys are told apart.
 use Rattle.std.specs.Prelude.{ℕ, ◌+◌, ◌-◌, ◌*◌, ◌/◌, ◌%◌, ◌^◌, nat_lt, if◌then◌else◌, List, length}
 use Rattle.std.specs.Prelude.{drop}
 use Rattle.cb_scan.specs.Keys.{key_prefix}
@@ -12,4 +12,4 @@ hash key =
     let whole = ((key_prefix key + key_end key * 0x9e37_79b9_7f4a_7c15 % 2 ^ 64) % 2 ^ 64
     + length key) % 2 ^ 64 in
     let folded = (whole + whole / 2 ^ 32) % 2 ^ 64 in
-    folded * 0x9e37_79b9_7f4a_7c15 % 2 ^ 64 / 2 ^ 32 % 2 ^ 32
+    folded * 0x9e37_79b9_7f4a_7c15 % 2 ^ 64 / 2 ^ 33

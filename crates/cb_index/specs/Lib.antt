@@ -1,6 +1,7 @@
 pub mod Archived
 pub mod Blocks
 pub mod Bytes
+pub mod Cells
 pub mod Columns
 pub mod Compact
 pub mod Counts

@@ -9,8 +9,8 @@ pub mod Given
 pub mod Includes
 pub mod Left
 pub mod Lists
-pub mod Marking
 pub mod Moves
+pub mod Numbering
 pub mod Quick
 pub mod RowsLeft
 pub mod Runs

@@ -1,41 +1,73 @@
 //! What a version keeps of each of its uses and calls beside the facts: a hash of its key, by which
 //! those of one key are found, and whether its row is that of an earlier one.
-ghost use Rattle.std.specs.Prelude.{◌≡◌, ◌<◌, ◌≤◌, [], ℕ, IfOk, false, length, map, true, ◌%◌, max, vec_capacity};
+ghost use Rattle.std.specs.Prelude.{◌≡◌, ◌+◌, ◌%◌, ◌^◌, ◌<◌, ◌≤◌, ℕ, IfOk, IfSome, OnOk, Some, List};
+ghost use Rattle.std.specs.Prelude.{[], length, map, max, nat_eq, unwrap_or, vec_capacity};
+ghost use Rattle.std.specs.Borrow.{Bor};
 ghost use Rattle.std.specs.Cmp.Lexicographic.{slice_cmp};
-ghost use Rattle.std.specs.List.{AllByRecursion, range_with_len};
-ghost use Rattle.std.specs.Ordering.{nat_cmp};
-ghost use Rattle.std.specs.Str.{bytes_eq};
-ghost use Rattle.cb_scan.specs.Order.{in_order};
-ghost use Rattle.cb_index.specs.Bytes.{cut};
-ghost use Rattle.cb_index.specs.Columns.{AreColumns, AreFlagged, cells_to, column_for, column_of};
-ghost use Rattle.cb_index.specs.Columns.{flag_of, is_near, with_flags};
+ghost use Rattle.std.specs.List.{list_any, range_with_len};
+ghost use Rattle.std.specs.Option.{option_or};
+ghost use Rattle.std.specs.Ordering.{is_eq, nat_cmp};
+ghost use Rattle.cb_index.specs.Cells.{Cell};
+ghost use Rattle.cb_index.specs.Columns.{AreColumns, AreFar, AreFlagged, cells_to, column_for};
+ghost use Rattle.cb_index.specs.Columns.{column_of, flag_of, is_near, with_flags};
 ghost use Rattle.cb_index.specs.Hash.{hash, key_end};
 ghost use Rattle.cb_index.specs.Items.{item_count};
-ghost use Rattle.cb_index.specs.declared.columns.Cell.{Cell};
-ghost use Rattle.cb_index.specs.declared.columns.Mention.{Mention};
-ghost use Rattle.cb_index.specs.steps.Marking.{are_alike, bytes_rank, function_rest, goes_on};
-ghost use Rattle.cb_index.specs.steps.Marking.{have_one_rest, key_rest, marked, mention_of};
-ghost use Rattle.cb_index.specs.steps.Marking.{mentions_of, numbers, rank, row_rest, span_or_none};
-ghost use Rattle.cb_index.specs.steps.Marking.{unmarked_of, with_each};
+ghost use Rattle.cb_index.specs.declared.entry.FactKind.TheVariants.{Callees, Callers};
+ghost use Rattle.cb_index.specs.steps.Numbering.{Knows, first_shown, function_at, known_as};
+ghost use Rattle.cb_index.specs.steps.Numbering.{number_of, some_if};
 
-use crate::archive::{OutOfMemory, ScannedSource, compare_by_words, cut};
+use crate::archive::{OutOfMemory, ScannedSource};
 use crate::entry::FactKind;
-use crate::items::{count_in, item_line, item_span, key_in};
-use crate::repeats::{function_in, have_one_function, have_one_span, search_repeat};
-use cb_scan::{Span, key_prefix};
+use crate::items::{count_in, item_line, key_in};
+use crate::repeats::{function_in, function_span, have_one_span, search_repeat};
+use cb_scan::{Facts, key_prefix};
 use std::alloc::Global;
-use std::cmp::Ordering;
+use std::collections::{BTreeMap, BTreeSet};
 use std::marker::Model;
 
 // ---- what is kept
 
-/// What is kept of an item.
-#[derive(Clone, Copy, Debug, PartialEq, Eq)]
+/// What is kept of an item: a hash of its key, and whether an item before it has its key and its
+/// row.
+#[derive(Debug, Drop)]
 pub(crate) struct Cell {
-    /// A hash of its key.
-    pub hash: u32,
-    /// Whether an item before it has its key and its row.
-    pub repeat: bool,
+    /// Twice the hash, and one more for a repeat.
+    bits: u32,
+}
+
+impl Model for Cell {
+    ghost use Rattle.std.specs.Prelude.{◌/◌, ◌%◌, nat_eq};
+    ghost use Rattle.cb_index.specs.Cells as cells;
+
+    ghost Value = { cells.Cell };
+
+    ghost view = { λ c. record { hash = c.bits / 2; repeat = nat_eq (c.bits % 2) 1 } };
+}
+
+impl Cell {
+    /// A cell.
+    fn new(hash: u32, repeat: bool) -> Cell
+        requires { hash < 2 ^ 31 }
+        ensures { result ≡ record { hash = hash; repeat = repeat } }
+    {
+        Cell {
+            bits: hash * 2 + repeat as u32,
+        }
+    }
+
+    /// The hash.
+    pub(crate) fn hash(&self) -> u32
+        ensures { result ≡ self.now.hash }
+    {
+        self.bits / 2
+    }
+
+    /// Whether it is that of a repeat.
+    pub(crate) fn repeat(&self) -> bool
+        ensures { result ≡ self.now.repeat }
+    {
+        self.bits % 2 == 1
+    }
 }
 
 /// The cells of the uses of a text, of its calls by the called name and of its calls by the name
@@ -70,7 +102,7 @@ impl Columns {
     {
         let uses = column(alloc, FactKind::Uses, text)?;
         let callees = column(alloc, FactKind::Callees, text)?;
-        let callers = column(alloc, FactKind::Callers, text)?;
+        let callers = callers_of(alloc, text, callees.as_slice())?;
         let signature = signature_of(
             alloc,
             uses.as_slice(),
@@ -121,17 +153,18 @@ fn key_end(key: &[u8]) -> u64
     }
 }
 
-/// A key as a number of 32 bits. Where it differs in any bit of its first bytes, of its last ones
+/// A key as a number of 31 bits. Where it differs in any bit of its first bytes, of its last ones
 /// or of its length, many of these bits differ.
 #[tactic(auto, unfolding(crate::specs::Hash::hash))]
 pub(crate) fn hash(key: &[u8]) -> u32
-    ensures { result ≡ hash key.now }
+    ensures value { result ≡ hash key.now }
+    ensures small { result < 2 ^ 31 }
 {
     let whole = key_prefix(key)
         .wrapping_add(key_end(key).wrapping_mul(SPREAD))
         .wrapping_add(key.len() as u64);
     let folded = whole.wrapping_add(whole >> 32);
-    (folded.wrapping_mul(SPREAD) >> 32) as u32
+    (folded.wrapping_mul(SPREAD) >> 33) as u32
 }
 
 /// Whether an item may have a key of a hash: it has none where its cell has another one.
@@ -139,9 +172,53 @@ pub(crate) fn is_near(cells: &[Cell], item: u32, hash: u32) -> bool
     ensures { result ≡ is_near cells.now item hash }
 {
     match cells.get(item as usize) {
-        Some(cell) => cell.hash == hash,
+        Some(cell) => cell.hash() == hash,
         None => true,
     }
+}
+
+/// So many cells are compared at once.
+const BLOCK: usize = 16;
+
+/// Whether one of some cells has a hash. All are looked at, so that many are compared at once.
+fn any_near(cells: &[Cell], hash: u32) -> bool
+    ensures { result ≡ list_any (λ (c : Cell). nat_eq c.hash hash) cells.now }
+{
+    let mut found = false;
+    for one in cells {
+        found |= one.hash() == hash;
+    }
+    found
+}
+
+/// Passes blocks of cells, from an item on, in which none has a hash.
+fn pass_blocks(cells: &[Cell], from: usize, hash: u32) -> usize
+    ensures from { from ≤ result }
+    ensures far { AreFar cells.now from result hash }
+{
+    let mut at = from;
+    while at.saturating_add(BLOCK) <= cells.len() {
+        if any_near(&cells[at..at + BLOCK], hash) {
+            return at;
+        }
+        at += BLOCK;
+    }
+    at
+}
+
+/// The next item, from one on, that may have a key of a hash; behind the last one if none has.
+pub(crate) fn next_near(cells: &[Cell], from: usize, hash: u32) -> usize
+    ensures from { from ≤ result }
+    ensures far { AreFar cells.now from result hash }
+{
+    let mut at = pass_blocks(cells, from, hash);
+    while at < cells.len() {
+        if cells[at].hash() == hash {
+            return at;
+        }
+        at += 1;
+    }
+    at
 }
 
 // ---- signatures
@@ -172,7 +249,7 @@ fn set_flags(flags: &mut [bool], cells: &[Cell])
     ensures len { length flags.new ≡ length flags.old }
 {
     for cell in cells {
-        let place = flag_place(cell.hash, flags.len());
+        let place = flag_place(cell.hash(), flags.len());
         if place < flags.len() {
             flags[place] = true;
         }
@@ -222,7 +299,7 @@ fn column(alloc: Global, sort: FactKind, text: &ScannedSource) -> Result<Vec<Cel
     ensures { IfOk result (λ cells. cells.items ≡ column_of sort text.now) }
 {
     if is_crowded(sort, text) {
-        column_by_order(alloc, sort, text)
+        column_by_rows(alloc, sort, text)
     } else {
         column_by_lines(alloc, sort, text)
     }
@@ -263,259 +340,174 @@ fn column_by_lines(
 {
     let mut cells = room_for(alloc, count_in(sort, text))?;
     for item in 0..count_in(sort, text) {
-        let cell = Cell {
-            hash: hash(key_in(sort, text, item as u32)),
-            repeat: search_repeat(sort, text, cells.as_slice(), item as u32),
-        };
-        let _ = cells.push(cell);
+        let _ = cells.push(Cell::new(
+            hash(key_in(sort, text, item as u32)),
+            search_repeat(sort, text, cells.as_slice(), item as u32),
+        ));
     }
     Ok(cells)
 }
 
 // ---- repeats where a line has many items
 
-/// An item, with what it is sorted by.
-#[derive(Clone, Copy, Debug)]
-pub(crate) struct Mention {
-    /// A hash of its key.
-    pub hash: u32,
-    /// Where its key stands in the text.
-    pub span: Span,
-    pub line: u32,
-    /// Its own number.
-    pub number: u32,
-}
+/// A name in the function column, and the first item that shows it.
+type Known<'a> = BTreeMap<&'a [u8], u32>;
 
-/// A span, or one without bytes.
-fn span_or_none(span: Option<Span>) -> Span
-    ensures { result ≡ span_or_none span }
-{
-    match span {
-        Some(span) => span,
-        None => Span { start: 0, end: 0 },
+/// Where the name in the function column of an item begins; 0 where it is not in the text.
+fn function_start(sort: FactKind, facts: &Facts, item: u32) -> u32 {
+    match function_span(sort, facts, item) {
+        Some(span) => span.start,
+        None => 0,
     }
 }
 
-/// The mention of an item.
-fn mention_of(sort: FactKind, text: &ScannedSource, item: u32) -> Mention
-    ensures { result ≡ mention_of sort text.now item }
-{
-    let span = span_or_none(item_span(sort, text.facts(), item));
-    Mention {
-        hash: hash(cut(text.source().bytes(), span)),
-        span,
-        line: item_line(sort, text.facts(), item),
-        number: item,
-    }
-}
-
-fn numbers(mention: Mention) -> [u32; 4]
-    ensures { result ≡ numbers mention }
-{
-    [
-        mention.number,
-        mention.span.start,
-        mention.span.end,
-        mention.line,
-    ]
-}
-
-/// The order of two mentions of one key on one line, in whose function columns are names with one
-/// hash.
-fn compare_function_bytes(sort: FactKind, text: &ScannedSource, a: Mention, b: Mention) -> Ordering
-    ensures { result
-        ≡ slice_cmp nat_cmp (function_rest sort text.now a) (function_rest sort text.now b) }
-{
-    match function_in(sort, text, a.number).cmp(function_in(sort, text, b.number)) {
-        Ordering::Equal => numbers(a).cmp(&numbers(b)),
-        settled => settled,
-    }
-}
-
-/// The order of two mentions of one key on one line, by the names in the function column. These may
-/// be long, and around many items: their bytes are looked at only where they have one hash and
-/// stand at two places of the text.
-fn compare_functions(sort: FactKind, text: &ScannedSource, a: Mention, b: Mention) -> Ordering
-    ensures { result ≡ slice_cmp nat_cmp (row_rest sort text.now a) (row_rest sort text.now b) }
-{
-    if have_one_span(sort, text.facts(), a.number, b.number) {
-        return numbers(a).cmp(&numbers(b));
-    }
-    let one = hash(function_in(sort, text, a.number));
-    match one.cmp(&hash(function_in(sort, text, b.number))) {
-        Ordering::Equal => compare_function_bytes(sort, text, a, b),
-        settled => settled,
-    }
-}
-
-/// The order of two mentions of one key.
-fn compare_rest(sort: FactKind, text: &ScannedSource, a: Mention, b: Mention) -> Ordering
-    ensures { result ≡ slice_cmp nat_cmp (key_rest sort text.now a) (key_rest sort text.now b) }
-{
-    match a.line.cmp(&b.line) {
-        Ordering::Equal => compare_functions(sort, text, a, b),
-        settled => settled,
-    }
-}
-
-/// The key of a mention.
-fn key_of(text: &ScannedSource, mention: Mention) -> &[u8]
-    ensures { result.now ≡ cut text.now.bytes mention.span }
-{
-    cut(text.source().bytes(), mention.span)
-}
-
-/// Whether the keys of two mentions stand at one place of the text.
-fn have_one_place(a: Mention, b: Mention) -> bool
-    ensures { result ≡ true → a.span ≡ b.span }
-{
-    a.span.start == b.span.start && a.span.end == b.span.end
-}
-
-/// Whether two mentions have one key. Its bytes are looked at only where it stands at two places: a
-/// key may be long, and around many calls.
-fn name_one_key(text: &ScannedSource, a: Mention, b: Mention) -> bool
-    ensures { result ≡ bytes_eq (cut text.now.bytes a.span) (cut text.now.bytes b.span) }
-{
-    have_one_place(a, b) || key_of(text, a) == key_of(text, b)
-}
-
-/// The order of two mentions with one hash.
-fn compare_keys(sort: FactKind, text: &ScannedSource, a: Mention, b: Mention) -> Ordering
-    ensures { result ≡ slice_cmp nat_cmp (bytes_rank sort text.now a) (bytes_rank sort text.now b) }
-{
-    if have_one_place(a, b) {
-        return compare_rest(sort, text, a, b);
-    }
-    match compare_by_words(key_of(text, a), key_of(text, b)) {
-        Ordering::Equal => compare_rest(sort, text, a, b),
-        settled => settled,
-    }
-}
-
-/// The order of two mentions, by hash, key, line, function and number.
-fn compare(sort: FactKind, text: &ScannedSource, a: Mention, b: Mention) -> Ordering
-    ensures { result ≡ slice_cmp nat_cmp (rank sort text.now a) (rank sort text.now b) }
-{
-    match a.hash.cmp(&b.hash) {
-        Ordering::Equal => compare_keys(sort, text, a, b),
-        settled => settled,
-    }
-}
-
-/// Sorts mentions so that those alike stand together.
-fn sort_alike(sort: FactKind, text: &ScannedSource, mentions: &mut [Mention])
-    ensures { mentions.new ≡ in_order (rank sort text.now) mentions.old }
-{
-    mentions.sort_unstable_by(
-        |a: &Mention, b: &Mention| -> Ordering
-            ensures { result ≡ slice_cmp nat_cmp (rank sort text.entry.now a.now)
-                (rank sort text.entry.now b.now) }
-        { compare(sort, text, *a, *b) },
-    );
-}
-
-/// Whether two mentions of one key are alike.
-fn have_one_rest(sort: FactKind, text: &ScannedSource, a: Mention, b: Mention) -> bool
-    ensures { result ≡ have_one_rest sort text.now a b }
-{
-    b.line == a.line && have_one_function(sort, text, a.number, b.number)
-}
-
-/// Whether two mentions are alike.
-fn are_alike(sort: FactKind, text: &ScannedSource, a: Mention, b: Mention) -> bool
-    ensures { result ≡ are_alike sort text.now a b }
-{
-    (a.hash == b.hash && name_one_key(text, a, b)) && have_one_rest(sort, text, a, b)
-}
-
-/// Whether the first of some mentions is alike to one.
-fn goes_on(sort: FactKind, text: &ScannedSource, one: Mention, behind: &[Mention]) -> bool
-    ensures { result ≡ goes_on sort text.now one behind.now }
-{
-    match behind.first() {
-        Some(next) => are_alike(sort, text, one, *next),
-        None => false,
-    }
-}
-
-/// A cell, marked as a repeat or not.
-fn marked(cell: Cell, repeat: bool) -> Cell
-    ensures { result ≡ marked cell repeat }
-{
-    Cell {
-        hash: cell.hash,
-        repeat,
-    }
-}
-
-/// Marks the cell of each mention that is alike to the one before it.
-#[tactic(auto, unfolding(crate::specs::steps::Marking::with_each))]
-fn mark_each(sort: FactKind, text: &ScannedSource, mentions: &[Mention], cells: &mut [Cell])
-    requires { AllByRecursion (λ (m : Mention). m.number < length cells.old) mentions.now }
-    ensures cells { cells.new ≡ with_each sort text.now false mentions.now cells.old }
-    ensures len { length cells.new ≡ length cells.old }
-{
-    let mut repeat = false;
-    for (i, one) in mentions.iter().enumerate() {
-        cells[one.number as usize] = marked(cells[one.number as usize], repeat);
-        repeat = goes_on(sort, text, *one, &mentions[i + 1..]);
-    }
-}
-
-/// The mentions of all items of a text.
-fn mentions_of(
-    alloc: Global,
+/// The number of an item, if another one shows its name at the same place and has a number.
+fn number_of_other(
     sort: FactKind,
     text: &ScannedSource,
-) -> Result<Vec<Mention>, OutOfMemory>
-    ensures { IfOk result (λ mentions. mentions.items ≡ mentions_of sort text.now) }
+    numbers: &[u32],
+    other: u32,
+    item: u32,
+) -> Option<u32>
+    requires { numbers.now ≡ map (number_of sort text.now) (range_with_len 0 item) }
+    ensures { IfSome result (λ n. first_shown sort text.now (function_at sort text.now item) item
+        ≡ Some n) }
 {
-    let mut mentions = room_for(alloc, count_in(sort, text))?;
-    for item in 0..count_in(sort, text) {
-        let _ = mentions.push(mention_of(sort, text, item as u32));
+    let number = *numbers.get(other as usize)?;
+    if have_one_span(sort, text.facts(), other, item) {
+        Some(number)
+    } else {
+        None
     }
-    Ok(mentions)
 }
 
-/// The cells of all items of a text before they are marked.
-fn unmarked(alloc: Global, sort: FactKind, text: &ScannedSource) -> Result<Vec<Cell>, OutOfMemory>
-    ensures { IfOk result (λ cells. cells.items
-        ≡ map (unmarked_of sort text.now) (range_with_len 0 (item_count sort text.now))) }
+/// The number of an item, where one before it shows its name at the same place. It is looked for at
+/// the item before, and among the first items of all places, which rise.
+fn number_at_place(
+    sort: FactKind,
+    text: &ScannedSource,
+    numbers: &[u32],
+    places: &[u32],
+    item: u32,
+) -> Option<u32>
+    requires { numbers.now ≡ map (number_of sort text.now) (range_with_len 0 item) }
+    ensures { IfSome result (λ n. first_shown sort text.now (function_at sort text.now item) item
+        ≡ Some n) }
 {
-    let mut cells = room_for(alloc, count_in(sort, text))?;
-    for item in 0..count_in(sort, text) {
-        let cell = Cell {
-            hash: hash(key_in(sort, text, item as u32)),
-            repeat: false,
-        };
-        let _ = cells.push(cell);
+    let last = number_of_other(sort, text, numbers, item.saturating_sub(1), item);
+    if last.is_some() {
+        return last;
     }
-    Ok(cells)
+    let start = function_start(sort, text.facts(), item);
+    let at = places.partition_point(|other: &u32| -> bool {
+        function_start(sort, text.facts(), *other) < start
+    });
+    let other = *places.get(at)?;
+    number_of_other(sort, text, numbers, other, item)
 }
 
-/// Marks the cells of all items by their mentions, which it sorts.
-fn mark(sort: FactKind, text: &ScannedSource, mentions: &mut [Mention], cells: &mut [Cell])
-    requires mentions { mentions.old ≡ mentions_of sort text.now }
-    requires cells { cells.old
-        ≡ map (unmarked_of sort text.now) (range_with_len 0 (item_count sort text.now)) }
-    ensures cells { cells.new ≡ column_of sort text.now }
-    ensures len { length cells.new ≡ length cells.old }
+/// The first item that shows the name of an item, which becomes known.
+fn first_known<'a>(known: &mut Known<'a>, name: &'a [u8], item: u32) -> Result<u32, OutOfMemory>
+    ensures first { IfOk result (λ n. n ≡ unwrap_or (known_as known.old name.entry) item) }
+    ensures known { OnOk result ((q : Bor (List ℕ)) → known_as known.new q
+        ≡ option_or (known_as known.old q)
+        (some_if (is_eq (slice_cmp nat_cmp name.entry.now q.now)) item)) }
 {
-    sort_alike(sort, text, mentions);
-    mark_each(sort, text, mentions, cells);
+    if let Some(first) = known.get(&name) {
+        return Ok(*first);
+    }
+    match known.insert(name, item) {
+        Ok(_) => Ok(item),
+        Err(_) => Err(OutOfMemory),
+    }
 }
 
-/// The column, where all items are sorted so that repeats stand behind what they repeat.
-fn column_by_order(
+/// The number of an item, whose name becomes known.
+fn next_number<'a>(
+    sort: FactKind,
+    text: &'a ScannedSource,
+    numbers: &[u32],
+    places: &mut Vec<u32>,
+    known: &mut Known<'a>,
+    item: u32,
+) -> Result<u32, OutOfMemory>
+    requires numbers { numbers.now ≡ map (number_of sort text.now) (range_with_len 0 item) }
+    requires known { Knows sort text.now known.old item }
+    ensures value { IfOk result (λ n. n ≡ number_of sort text.now item) }
+    ensures known { OnOk result (Knows sort text.now known.new (item + 1)) }
+{
+    if let Some(number) = number_at_place(sort, text, numbers, places.as_slice(), item) {
+        return Ok(number);
+    }
+    if places.push(item).is_err() {
+        return Err(OutOfMemory);
+    }
+    let number = first_known(known, function_in(sort, text, item), item)?;
+    Ok(number)
+}
+
+/// The number of each item: the first one that shows its name in the function column. A name may
+/// be long, and around many items: its bytes are compared once for each place.
+fn numbers_of(alloc: Global, sort: FactKind, text: &ScannedSource) -> Result<Vec<u32>, OutOfMemory>
+    ensures { IfOk result (λ numbers. numbers.items
+        ≡ map (number_of sort text.now) (range_with_len 0 (item_count sort text.now))) }
+{
+    let mut known = BTreeMap::new(alloc);
+    let mut places = Vec::new(alloc);
+    let mut numbers = room_for(alloc, count_in(sort, text))?;
+    for item in 0..count_in(sort, text) {
+        let number = next_number(
+            sort,
+            text,
+            numbers.as_slice(),
+            &mut places,
+            &mut known,
+            item as u32,
+        )?;
+        let _ = numbers.push(number);
+    }
+    Ok(numbers)
+}
+
+/// The column, where the rows of the items so far are kept in order.
+fn column_by_rows(
     alloc: Global,
     sort: FactKind,
     text: &ScannedSource,
 ) -> Result<Vec<Cell>, OutOfMemory>
     ensures { IfOk result (λ cells. cells.items ≡ column_of sort text.now) }
 {
-    let mut mentions = mentions_of(alloc, sort, text)?;
-    let mut cells = unmarked(alloc, sort, text)?;
-    mark(sort, text, mentions.as_mut_slice(), cells.as_mut_slice());
+    let numbers = numbers_of(alloc, sort, text)?;
+    let mut rows: BTreeSet<(u32, u32, &[u8])> = BTreeSet::new(alloc);
+    let mut cells = room_for(alloc, count_in(sort, text))?;
+    for item in 0..count_in(sort, text) {
+        let key = key_in(sort, text, item as u32);
+        let line = item_line(sort, text.facts(), item as u32);
+        let Ok(new) = rows.insert((line, numbers[item], key)) else {
+            return Err(OutOfMemory);
+        };
+        let _ = cells.push(Cell::new(hash(key), !new));
+    }
+    Ok(cells)
+}
+
+/// The column of calls by the name that calls, from that by the called name: the rows of a call in
+/// the two are repeats of the same.
+fn callers_of(
+    alloc: Global,
+    text: &ScannedSource,
+    callees: &[Cell],
+) -> Result<Vec<Cell>, OutOfMemory>
+    requires { callees.now ≡ column_of Callees text.now }
+    ensures { IfOk result (λ cells. cells.items ≡ column_of Callers text.now) }
+{
+    let _count = count_in(FactKind::Callees, text);
+    let mut cells = room_for(alloc, callees.len())?;
+    for (item, callee) in callees.iter().enumerate() {
+        let _ = cells.push(Cell::new(
+            hash(key_in(FactKind::Callers, text, item as u32)),
+            callee.repeat(),
+        ));
+    }
     Ok(cells)
 }

@@ -12,10 +12,10 @@ ghost use Rattle.cb_index.specs.steps.Left.{groups_left, rows_counted, spots_lef
 ghost use Rattle.cb_index.specs.steps.ShownIn.{shown_in};
 
 use crate::archive::{Archive, Version};
-use crate::columns::hash;
+use crate::columns::{hash, next_near};
 use crate::entry::{FactKind, Shown};
 use crate::files::ShownFiles;
-use crate::items::{Chain, has_key, item_count, row_count};
+use crate::items::{Chain, item_count, item_key, row_count};
 use crate::repeats::take_given;
 use crate::rows::{FactRow, FactSpot, fact_at};
 
@@ -74,10 +74,13 @@ fn first_with_key(sort: FactKind, version: &Version, key: &[u8]) -> Option<u32>
     if !version.may_have(hash) {
         return None;
     }
-    for item in 0..item_count(sort, version) {
-        if has_key(sort, version, key, hash, item as u32) {
+    let cells = version.column(sort);
+    let mut item = next_near(cells, 0, hash);
+    while item < item_count(sort, version) {
+        if key == item_key(sort, version, item as u32) {
             return Some(item as u32);
         }
+        item = next_near(cells, item + 1, hash);
     }
     None
 }

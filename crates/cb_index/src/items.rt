@@ -2,7 +2,6 @@
 //! a call among its calls, from 0. Facts of one key on one line that have the same name in the
 //! function column have one row.
 ghost use Rattle.std.specs.Prelude.{◌≡◌, ◌<◌, ◌^◌, ◌∷◌, [], MatchOption, true};
-ghost use Rattle.std.specs.Str.{bytes_eq};
 ghost use Rattle.cb_index.specs.Counts.{row_count};
 ghost use Rattle.cb_index.specs.Hash.{hash};
 ghost use Rattle.cb_index.specs.Items.{have_one_key, is_first, item_count, item_key, item_line};
@@ -11,7 +10,7 @@ ghost use Rattle.cb_index.specs.steps.Chains.{chain_left};
 ghost use Rattle.cb_index.specs.steps.Spread.{items_from};
 
 use crate::archive::{ScannedSource, Version, bytes_at};
-use crate::columns::{hash, is_near};
+use crate::columns::{hash, is_near, next_near};
 use crate::entry::FactKind;
 use crate::repeats::is_repeat;
 use cb_scan::{Facts, Span};
@@ -112,14 +111,6 @@ fn has_key_of(sort: FactKind, version: &Version, item: u32, own: u32, other: u32
     is_near(version.column(sort), other, own) && share_key(sort, version.text(), item, other)
 }
 
-/// Whether an item has a key, whose hash is this.
-pub(crate) fn has_key(sort: FactKind, version: &Version, key: &[u8], own: u32, item: u32) -> bool
-    requires { own ≡ hash key.now }
-    ensures { result ≡ bytes_eq key.now (item_key sort version.now item) }
-{
-    is_near(version.column(sort), item, own) && key == item_key(sort, version, item)
-}
-
 /// Whether no item before an item has its key.
 pub(crate) fn is_first(sort: FactKind, version: &Version, item: u32) -> bool
     ensures { result ≡ is_first sort version.now item }
@@ -139,10 +130,13 @@ fn next_of_key(sort: FactKind, version: &Version, item: u32) -> Option<u32>
         (λ next. later sort version.now item ≡ next ∷ later sort version.now next) }
 {
     let hash = hash(item_key(sort, version, item));
-    for next in item as usize + 1..item_count(sort, version) {
-        if has_key_of(sort, version, item, hash, next as u32) {
+    let cells = version.column(sort);
+    let mut next = next_near(cells, item as usize + 1, hash);
+    while next < item_count(sort, version) {
+        if share_key(sort, version.text(), item, next as u32) {
             return Some(next as u32);
         }
+        next = next_near(cells, next + 1, hash);
     }
     None
 }

@@ -32,7 +32,7 @@ fn function_of<'a>(sort: FactKind, spot: FactSpot<'a>) -> &'a [u8]
 }
 
 /// Where the name in the function column stands in the text, if it is there.
-fn function_span(sort: FactKind, facts: &Facts, item: u32) -> Option<Span>
+pub(crate) fn function_span(sort: FactKind, facts: &Facts, item: u32) -> Option<Span>
     ensures { result ≡ function_span sort facts.now item }
 {
     match sort {
@@ -128,7 +128,7 @@ pub(crate) fn is_repeat(sort: FactKind, version: &Version, item: u32) -> bool
 {
     let column = version.column(sort);
     match column.get(item as usize) {
-        Some(cell) => cell.repeat,
+        Some(cell) => cell.repeat(),
         None => search_repeat(sort, version.text(), column, item),
     }
 }
