@@ -319,11 +319,14 @@ class Text:
         """Finds the bodies of structures and the like, and what is declared in them."""
         bare = Bare(self.split)
         self.bodies, self.tags, self.before_tags = set(), set(), set()
+        self.structures = set()  # the bodies that are no enumerations
         self.enumerators, self.members, self.parts_of_file = [], set(), []
         self.given = set()  # the names of parts with a value
         for number, brace in bare.braces.items():
             if brace.word:
                 self.bodies.add(self.index[bare.tokens[number].place])
+            if brace.word in (b"struct", b"union"):
+                self.structures.add(self.index[bare.tokens[number].place])
             if brace.word and brace.tag:
                 self.tags.add(brace.tag.place)
                 before = number - 2

@@ -353,6 +353,13 @@ class StrangeIsPlain(Tree):
         pass
 
 
+class HandedIsPlain(Tree):
+    """A macro that is handed to another one is not looked at."""
+
+    def refuse_handed(self, text, thing, names):
+        pass
+
+
 class UsedInBlock(Tree):
     """The new name is looked for in the scope of the local alone."""
 
@@ -604,7 +611,8 @@ def with_macros(macro):
 
 
 RENAME_PLANTS = [
-    MacroReachesNothing, StrangeIsPlain, IncludedIsLost, OneRoundLess, OneRoundMore, FirstTextAlone,
+    MacroReachesNothing, StrangeIsPlain, HandedIsPlain, IncludedIsLost, OneRoundLess, OneRoundMore,
+    FirstTextAlone,
     OwnTextAlone, LongChainsReachNothing, NameByName, AttributeIsForgotten, DirectiveIsForgotten,
     HeadIsForgotten, InnermostMacro, MembersAreTaken, LastMacro, ArgumentsFirst, OldMayBeType,
     OneSideIsOdd, EarlyEndIsForgotten, AllIsSure, OutsideFirst, LabelStandsAlone,

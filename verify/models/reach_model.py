@@ -55,16 +55,26 @@ class NameOfFile(NamedTuple):
 
 
 class Macro(NamedTuple):
-    """A definition of a macro: its parameters and its text."""
+    """A definition of a macro: its parameters and its text, and whether it takes arguments."""
 
     parameters: frozenset
     text: Stream
+    takes: bool
 
     @property
     def names(self):
         """The names of the text other than its parameters, by place."""
         names = [token.text for token in self.text.tokens if token.is_name]
         return [name for name in names if name not in self.parameters]
+
+    @property
+    def calls(self):
+        """Whether a `(` directly follows a parameter in the text."""
+        return any(
+            token.text in self.parameters and self.text.text(index + 1) == b"("
+            for index, token in enumerate(self.text.tokens)
+            if token.is_name
+        )
 
     def has(self, *wanted):
         """Whether the text has one of some names that is no parameter, and neither a member nor a
@@ -368,7 +378,8 @@ class Tree:
                 if line.own_word != b"define" or not stream.is_name(2):
                     continue
                 parameters, first = frozenset(), 3
-                if stream.text(3) == b"(" and stream.tokens[3].place == stream.tokens[2].end:
+                takes = stream.text(3) == b"(" and stream.tokens[3].place == stream.tokens[2].end
+                if takes:
                     texts = [token.text for token in stream.tokens]
                     last = texts.index(b")", 4) if b")" in texts[4:] else len(texts) - 1
                     parameters = frozenset(
@@ -376,7 +387,7 @@ class Tree:
                     )
                     first = last + 1
                 text = Stream(self.files[file], stream.tokens[first:])
-                found.setdefault(stream.text(2), []).append(self.macro_of(parameters, text))
+                found.setdefault(stream.text(2), []).append(self.macro_of(parameters, text, takes))
         return found
 
     def met(self, names):
@@ -516,7 +527,8 @@ class Tree:
 
     def is_unsure(self, text, token):
         """Whether a name is in a directive or an attribute that is left out, or is the label whose
-        address is taken, the member in an old designator, or in the body of a structure."""
+        address is taken, the member in an old designator, or in the body of a structure. In a block
+        such a designator is a label."""
         if token.place not in text.index or token.place in text.left_out:
             return True
         code, index = text.code, text.index[token.place]
@@ -525,7 +537,8 @@ class Tree:
         is_address = is_sign and code.touch(before - 1) and not ends_operand(code, before - 2)
         is_given = code.text(before) in (b"{", b",") and is_colon(code, code.following(index))
         around = code.around[index]
-        return is_address or is_given or (code.text(around) == b"{" and around in text.bodies)
+        is_given = is_given and text.kinds.get(around) != "block"
+        return is_address or is_given or around in text.structures
 
     def refuse_arguments(self, thing, places):
         """No use is an argument of a strange macro; of a name of the file no token of the name."""
@@ -537,9 +550,30 @@ class Tree:
                 # a macro can take another name of this spelling for the label
                 uses = [it.place for it in self.names_of(text, thing) if it.text == thing.name]
             called = {it for use in uses for it in self.called_around(text, use, thing)}
-            through = self.strange([it.text for it in sorted(called, key=lambda it: it.place)])
+            names = [it.text for it in sorted(called, key=lambda it: it.place)]
+            through = self.strange(names)
             if through is not None:
                 raise Refusal(b"in the arguments of a macro: " + through)
+            if isinstance(thing, Thing) and thing.kind != "parameter":
+                self.refuse_handed(text, thing, names)
+
+    def refuse_handed(self, text, thing, names):
+        """A local and a label: where one of some names leads to a macro that calls a parameter, no
+        strange macro is named without its arguments, which that one may give it."""
+        if self.leading(names, lambda it: it.calls) is None:
+            return
+        code = text.code
+        alone = [
+            it.text
+            for it in self.names_of(text, thing)
+            if it.place in text.index
+            and it.place not in text.left_out
+            and code.text(code.following(text.index[it.place])) != b"("
+        ]
+        handed = [it for it in alone if any(one.takes for one in self.macros.get(it, []))]
+        through = self.leading(handed, lambda it: it.is_strange)
+        if through is not None:
+            raise Refusal(b"in the arguments of a macro: " + through)
 
     def strange(self, names):
         """The first of some names whose arguments can become something else than what they are: one

@@ -27,6 +27,7 @@ sys.set_int_max_str_digits(0)
 MOST_HEAD, MOST_BODY, MOST_DEPTH = 4_096, 16_000_000, 128
 MOST_SYMBOLS, MOST_HOVERED, MOST_COMPLETIONS = 1_000, 8, 1_000
 MOST_LINE, MOST_QUERY, MOST_READ_AGAIN = 400, 255, 64
+MOST_AHEAD = 64  # events that are looked at for the same one
 DROPPED = b"out of date, a message was dropped: close the file and open it again"
 WELCOME = (
     b'{"capabilities":{"positionEncoding":"%s",'
@@ -725,9 +726,12 @@ class Server:
         changes = member(params, "changes")
         if not isinstance(changes, list):
             return
-        for change in changes:
+        for place, change in enumerate(changes):
             kind, uri = member(change, "type"), member(change, "uri")
             if not isinstance(uri, str) or not isinstance(kind, Number):
+                continue
+            behind = changes[place + 1 : place + 1 + MOST_AHEAD]
+            if said_by(change) is not None and said_by(change) in map(said_by, behind):
                 continue
             path = path_of(uri.encode())
             name = None if path is None else self.root.name_in(path)
@@ -752,13 +756,21 @@ class Server:
             for file, text in self.world.files.items()
             if is_of_uses and any(use.name == name for use in self.facts(text).uses)
         }
-        files = [*sorted(defining), *sorted(using - defining)]
-        for file in files[:MOST_READ_AGAIN]:
+        files = [*sorted(defining), *sorted(using), *self.named_besides(method, params)]
+        for file in [*dict.fromkeys(files)][:MOST_READ_AGAIN]:
             if file in self.documents:
                 continue
             found = self.disk.read(self.root.path_of(file))
             if found not in (GONE, UNREADABLE, b""):
                 self.give(file, found)
+
+    def named_besides(self, method, params):
+        """The files of the symbols of a query, and those of what a function calls."""
+        if method == "workspace/symbol":
+            return [it.file for it in self.found_by(string_of(params, "query"))]
+        if method == "callHierarchy/outgoingCalls":
+            return [it.file for it, _ in self.called(*self.item_of(method, params))]
+        return []
 
     def asked_about(self, method, params):
         """The name that a question is about, if there is one, and whether its uses count."""
@@ -1101,10 +1113,10 @@ class Server:
             rows.append(b'{"from":%s,"fromRanges":%s}' % (item, listed(spans)))
         return listed(rows)
 
-    def outgoing_calls(self, params):
-        name, file, position = self.item_of("callHierarchy/outgoingCalls", params)
+    def called(self, name, file, position):
+        """What a function calls, and the places of its calls, by the first of these."""
         if file is None:
-            return b"null"
+            return []
         text = self.world.files[file]
         place = place_of(text, *position, self.is_utf16)
         groups: dict = {}
@@ -1112,12 +1124,18 @@ class Server:
             if (call.caller_place, call.caller) == (place, name):
                 span = self.span_of(file, call.place, call.callee)
                 groups.setdefault(call.callee, []).append(span)
-        rows = [
-            b'{"to":%s,"fromRanges":%s}' % (self.item(it), listed(spans))
-            for callee, spans in groups.items()
-            for it in self.callable(file, callee)
+        return [
+            (it, spans) for callee, spans in groups.items() for it in self.callable(file, callee)
         ]
-        return listed(rows)
+
+    def outgoing_calls(self, params):
+        name, file, position = self.item_of("callHierarchy/outgoingCalls", params)
+        if file is None:
+            return b"null"
+        return listed(
+            b'{"to":%s,"fromRanges":%s}' % (self.item(it), listed(spans))
+            for it, spans in self.called(name, file, position)
+        )
 
     def folding(self, params):
         file = self.file_of(params)
@@ -1136,8 +1154,8 @@ class Server:
         places = [Place(file, one) for one in self.facts(self.world.files[file]).definitions]
         return listed(self.symbol(it, self.is_tree) for it in places)
 
-    def workspace_symbol(self, params):
-        query = string_of(params, "query")
+    def found_by(self, query):
+        """The definitions that a query names."""
         named = sorted(self.places(), key=lambda it: (it.definition.name, it.file))
         exact = [it for it in named if it.definition.name == query]
         holding = [
@@ -1146,7 +1164,19 @@ class Server:
             if it.definition.name != query and query.lower() in it.definition.name.lower()
         ]
         holding = holding if len(query) <= MOST_QUERY else []
-        return listed(self.symbol(it, False) for it in (exact + holding)[:MOST_SYMBOLS])
+        return (exact + holding)[:MOST_SYMBOLS]
+
+    def workspace_symbol(self, params):
+        found = self.found_by(string_of(params, "query"))
+        return listed(self.symbol(it, False) for it in found)
+
+
+def said_by(event):
+    """What an event says of which file: that it was written, or deleted."""
+    kind, uri = member(event, "type"), member(event, "uri")
+    if not isinstance(uri, str) or not isinstance(kind, Number) or kind.value not in (1, 2, 3):
+        return None
+    return uri, kind.value == 3
 
 
 def serve(operands, data, writes=(), **how):

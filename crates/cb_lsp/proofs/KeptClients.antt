@@ -12,6 +12,7 @@ use Rattle.cb_lsp.specs.declared.notice.Notice.TheVariants.{Ready, Open, Change,
 use Rattle.cb_lsp.specs.declared.notice.Notice.TheVariants.{Files}
 use Rattle.cb_lsp.specs.Documents.{Oracle, behind_event, first_found, first_refusal, later}
 use Rattle.cb_lsp.specs.Documents.{is_open, later_refusals}
+use Rattle.cb_lsp.specs.FileEvents.{last_events}
 use Rattle.cb_lsp.specs.Messages.{Serving, all_happened, bad_name, dropped, ends_as_c, happened}
 use Rattle.cb_lsp.specs.Messages.{happened_as, happened_at, happened_in, happened_to, is_opening}
 use Rattle.cb_lsp.specs.Messages.{may_enter, moved, read_behind}
@@ -107,7 +108,7 @@ all-stay o s (item event more) =
 pub in-stays : (o : Oracle) (s : Serving) (events : Option Items)
     → Stays s (happened_in o s events).server
 in-stays o s None = all-as-is s
-in-stays o s (Some events) = all-stay o s events
+in-stays o s (Some events) = all-stay o s (last_events events)
 
 -- ---- notifications
 

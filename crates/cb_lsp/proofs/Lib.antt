@@ -13,6 +13,7 @@ pub mod Events
 pub mod Exact
 pub mod FileSymbols
 pub mod Folding
+pub mod FoundFiles
 pub mod FromPlaces
 pub mod Headers
 pub mod HeldUnits

@@ -13,12 +13,12 @@ use Rattle.cb_lsp.specs.declared.notice.FileEvent.{FileEvent}
 use Rattle.cb_lsp.specs.declared.notice.FileEvent.TheVariants.{Written}
 use Rattle.cb_tags.specs.Writers.{Writer}
 use Rattle.cb_tags.specs.Writing.{Puts}
-use Rattle.cb_desk.specs.World.{World, WorldBounds, has_file}
+use Rattle.cb_desk.specs.World.{World, WorldBounds}
 use Rattle.cb_lsp.specs.Bodies.{DoesBy, written_text}
 use Rattle.cb_lsp.specs.Documents.{Looked, Oracle, Reading, Work, first_found, given_found}
 use Rattle.cb_lsp.specs.Documents.{is_renewed, looked_by, most_read, renewed}
 use Rattle.cb_lsp.specs.Messages.{Serving, dropped, ends_as_c, happened, happened_at, is_opening}
-use Rattle.cb_lsp.specs.Messages.{may_enter, moved, read_behind, read_renewed}
+use Rattle.cb_lsp.specs.Messages.{may_enter, moved, only_name, read_behind, read_renewed}
 use Rattle.cb_lsp.specs.Messages.{noticed_at, noticed_of, registers, replies, show_if, show_of}
 use Rattle.cb_lsp.specs.Messages.{stays, told_of}
 use Rattle.cb_lsp.specs.Messages.{unread}
@@ -117,12 +117,12 @@ pub renewed-told : {A E : Type 0} (finds : Looked → Type 0) (m : Bool) (f : Re
     → is_renewed held.work (may_enter path name) name ≡ true
     → record { work = work; told = told } ≡ given_found f m held.work name None
     → Puts old new r (written_text (show_if name told))
-    → finds (looked_by (not (has_file held.work.world.files name)) held.work.world path f)
+    → finds (looked_by (only_name held.work name) held.work.world path f)
     → DoesBy finds (happened_at Written (one_change m f) s (Some path))
     (record held { work = work }) old new r
 renewed-told finds m f held s path name work told old new r same is renews tells put found =
     let o = one_change m f in
-    let looked = looked_by (not (has_file held.work.world.files name)) held.work.world path f ∷ [] in
+    let looked = looked_by (only_name held.work name) held.work.world path f ∷ [] in
     let read : looked ≡ read_renewed f held.work (may_enter path name) path name =
     ap (λ b. if b then looked else []) (sym renews) in
     let chosen : given_found f m held.work name None
@@ -141,15 +141,15 @@ renewed-told finds m f held s path name work told old new r same is renews tells
     new r meant ((on-ok r refl, put), on-ok r (found, tt)))
 
 -- what is read is looked at
-pub looked-so : (finds : Looked → Type 0) (alone : Bool) (w : World) (b : WorldBounds)
+pub looked-so : (finds : Looked → Type 0) (only : ℕ) (w : World) (b : WorldBounds)
     (path at : List ℕ) (most : ℕ) (f : Reading) → at ≡ path → most ≡ most_read b → b ≡ w.bounds
-    → finds (record { path = at; most = most; alone = alone; found = f })
-    → finds (looked_by alone w path f)
-looked-so finds alone w b path at most f same is held found =
+    → finds (record { path = at; most = most; only = only; found = f })
+    → finds (looked_by only w path f)
+looked-so finds only w b path at most f same is held found =
     subst finds (λ i. record {
       path = same i;
       most = (is ∙ ap most_read held) i;
-      alone = alone;
+      only = only;
       found = f;
     }) found
 

@@ -22,7 +22,8 @@ use Rattle.cb_lsp.specs.Calls.{cut_by}
 use Rattle.cb_lsp.specs.Clients.{Client}
 use Rattle.cb_lsp.specs.Messages.{Serving}
 use Rattle.cb_lsp.specs.Outgoing.{Callee, Group, by_name, callees_by, have_one_name, outgoing_calls}
-use Rattle.cb_lsp.specs.Outgoing.{told_by_name}
+use Rattle.cb_lsp.specs.Outgoing.{Called, files_called, first_called, told_by_name}
+use Rattle.cb_lsp.specs.Refresh.{files_called_in}
 use Rattle.cb_lsp.specs.Questions.{outgoing}
 use Rattle.cb_lsp.specs.declared.outgoing.CalleeGroup.{CalleeGroup}
 use Rattle.cb_lsp.specs.declared.outgoing.CalleeRow.{CalleeRow}
@@ -186,6 +187,38 @@ outgoing-told c w name file p t text n calls rows found text-is n-is calls-is ro
     ap (λ rs. list_of (told_by_name c w file rs))
     (rows-is ∙ (λ i. by_name (callees_by c.encoding t.bytes name (at i) (all i))))
     ∙ outgoing-there c w name file p t found
+
+-- ---- the files of what is called
+
+called-there : (c : Client) (w : World) (name file : List ℕ) (p : Position) (t : ScannedText)
+    → Some t ≡ scanned_named w.profile w.files file
+    → files_called c w file t.bytes name p ≡ files_called_in c w name p (Some file)
+called-there c w name file p t found =
+    (elim (has_file w.files file) as
+    (λ b. Some t
+    ≡ option_map (scanned_by w.profile) (if b then Some (text_of_file w.files file) else None)
+    → files_called c w file t.bytes name p
+    ≡ (if b then files_called c w file (text_of_file w.files file) name p else [])) [
+      | true ↦ λ k.
+          let is : t ≡ scanned_by w.profile (text_of_file w.files file) = cc in
+          ap (λ (x : ScannedText). files_called c w file x.bytes name p) is
+      | false ↦ λ k. cc
+    ]) found
+
+pub called-told : (c : Client) (w : World) (name file : List ℕ) (p : Position) (t : ScannedText)
+    (text : List ℕ) (n : ℕ) (calls : List Call) (rows : List Callee)
+    → Some t ≡ scanned_named w.profile w.files file → text ≡ t.bytes
+    → n ≡ place c.encoding text p → calls ≡ t.facts.calls
+    → rows ≡ by_name (callees_by c.encoding t.bytes name n calls)
+    → map (λ (called : Called). called.0.file) (first_called w file rows)
+    ≡ files_called_in c w name p (Some file)
+called-told c w name file p t text n calls rows found text-is n-is calls-is rows-is =
+    let at = n-is ∙ ap (λ b. place c.encoding b p) text-is in
+    let all = calls-is ∙ ap (λ (f : TextFacts). f.calls)
+    (facts-there w w w file t found refl refl) in
+    ap (λ rs. map (λ (called : Called). called.0.file) (first_called w file rs))
+    (rows-is ∙ (λ i. by_name (callees_by c.encoding t.bytes name (at i) (all i))))
+    ∙ called-there c w name file p t found
 
 pub outgoing-missing : (c : Client) (w : World) (name file : List ℕ) (p : Position)
     → None ≡ scanned_named w.profile w.files file → null ≡ outgoing_named c w name p (Some file)

@@ -37,6 +37,7 @@ use Rattle.cb_lsp.specs.Documents.{kept_from, kept_text, linked, lost, no_room, 
 use Rattle.cb_lsp.specs.Documents.{present, removed, renewed, saved_as, text_of_document, text_step}
 use Rattle.cb_lsp.specs.Documents.{text_unless, unreadable, with_document, without}
 use Rattle.cb_lsp.specs.Documents.{without_document}
+use Rattle.cb_lsp.specs.FileEvents.{last_events}
 use Rattle.cb_lsp.specs.Messages.{Message, Serving, all_happened, bad_name, does, dropped}
 use Rattle.cb_lsp.specs.Messages.{initialized, out_of_memory, refreshed, refreshed_from}
 use Rattle.cb_lsp.specs.Messages.{unread}
@@ -699,7 +700,7 @@ all-good o s sent good (item event more) =
 happened-in-good : (o : Oracle) (s : Serving) (sent : Sent) → Good s.work sent
     → (events : Option Items) → Good (happened_in o s events).server.work sent
 happened-in-good o s sent good None = good
-happened-in-good o s sent good (Some events) = all-good o s sent good events
+happened-in-good o s sent good (Some events) = all-good o s sent good (last_events events)
 
 registers-good : (s : Serving) (sent : Sent) → Good s.work sent → (b : Bool)
     → Good (registers s b).server.work sent

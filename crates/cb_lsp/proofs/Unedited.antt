@@ -1,6 +1,6 @@
 -- The files of uses, looked at use by use.
 use Rattle.std.proofs.Common.{◌≡◌, ◌∙◌, not, sym, ap, subst, refl, ℕ, Bool, true, false, List, []}
-use Rattle.std.proofs.Common.{◌∷◌, ◌++◌, map, take, if◌then◌else◌, append_assoc}
+use Rattle.std.proofs.Common.{◌∷◌, ◌++◌, length, map, take, if◌then◌else◌, append_assoc}
 use Rattle.std.specs.Prelude.{Option, None, Some, Result, Err}
 use Rattle.std.specs.List.{AllByRecursion}
 use Rattle.std.specs.Option.{option_map}
@@ -211,7 +211,7 @@ pub check-found : (finds : Looked → Type 0) (f : Reading) (c : Client) (w : Wo
     → all ≡ false → is_open w.documents file ≡ is_one
     → option_map reason_of result ≡ (if is_one then unless_linked file f
     else unless_found file (text_of_file w.world.files file) f)
-    → finds (looked_by true w.world (path_below c.root.path file) f)
+    → finds (looked_by (length file) w.world (path_below c.root.path file) f)
     → ComesTo finds (check (one_change false f) c w all file) result
 check-found finds f c w file result all is_one may some is said found =
     let path = path_below c.root.path file in

@@ -37,8 +37,8 @@ pub record Told : Type 0 where
   pub work : Work
   pub told : Option (List ℕ)
 
--- what is found where a file is read again: none; a link or a file of two names, where that will not
--- do; one that cannot be read; one for whose bytes memory is refused; or its bytes
+-- what is found where a file is read again: none; one that is reached by a link or has two names,
+-- where that will not do; one that cannot be read; one for whose bytes memory is refused; or its bytes
 pub data Reading : Type 0 where
   gone : Reading
   linked : Reading
@@ -46,25 +46,26 @@ pub data Reading : Type 0 where
   no_room : Reading
   holds : List ℕ → Reading
 
--- a file that was read again: its path, the most bytes that are read of it, whether only a file
--- will do that has no other name, and what is found
+-- a file that was read again: its path, the most bytes that are read of it, how many of the last
+-- bytes of the path are a name that has to be the only one of the file in the folder before it, or 0
+-- where any name will do, and what is found
 pub record Looked : Type 0 where
   pub path : List ℕ
   pub most : ℕ
-  pub alone : Bool
+  pub only : ℕ
   pub found : Reading
 
 -- one byte more than a file may have, so that a larger one is seen to be too large
 abbrev pub most_read : WorldBounds → ℕ
 most_read b = b.file_bytes + 1
 
-abbrev pub looked_by : (alone : Bool) → World → (path : List ℕ) → Reading → Looked
-looked_by alone w path found =
-    record { path = path; most = most_read w.bounds; alone = alone; found = found }
+abbrev pub looked_by : (only : ℕ) → World → (path : List ℕ) → Reading → Looked
+looked_by only w path found =
+    record { path = path; most = most_read w.bounds; only = only; found = found }
 
 -- under any name of it
 abbrev pub looked_at : World → (path : List ℕ) → Reading → Looked
-looked_at w path found = looked_by false w path found
+looked_at w path found = looked_by 0 w path found
 
 -- what the machine decides while a message is taken: where memory is refused, and what is found
 -- where files are read again, each in turn

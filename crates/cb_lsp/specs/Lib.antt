@@ -13,6 +13,7 @@ pub mod EditorExamples
 pub mod Editors
 pub mod Endings
 pub mod Exact
+pub mod FileEvents
 pub mod Folds
 pub mod Headers
 pub mod Highlights

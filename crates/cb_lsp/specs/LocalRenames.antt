@@ -9,7 +9,8 @@ use Rattle.std.specs.Str.{bytes_eq}
 use Rattle.json.specs.Json.{Json}
 use Rattle.cb_desk.specs.World.{World, has_file, text_of_file}
 use Rattle.cb_index.specs.Rows.{tags_named}
-use Rattle.cb_macros.specs.Meeting.{first_through, has_either, makes_other}
+use Rattle.cb_macros.specs.Meeting.{calls_argument, first_through, has_either, has_parameters}
+use Rattle.cb_macros.specs.Meeting.{makes_other}
 use Rattle.cb_names.specs.FunctionNames.{FunctionNames, function_names}
 use Rattle.cb_names.specs.Locals.{LocalName}
 use Rattle.cb_names.specs.Macros.{takes_member}
@@ -168,6 +169,26 @@ unless_arguments w text cs =
     (option_or (find takes_member (map (bytes_of text) cs))
     (first_through w makes_other (map (bytes_of text) cs)))
 
+-- a span has the name of a macro with parameters. Without its arguments it is handed to another one
+abbrev pub is_handed : World → (text : List ℕ) → Span → Bool
+is_handed w text s = has_parameters w (bytes_of text s)
+
+-- by what such macros make of arguments
+abbrev pub unless_alone : World → (text : List ℕ) → (lone : List Span) → Option Unrenamed
+unless_alone w text ss =
+    option_map in_arguments
+    (first_through w makes_other (map (bytes_of text) (filter (is_handed w text) ss)))
+
+-- the same, where one of some names leads to a macro that calls an argument
+abbrev pub unless_handed : World → (text : List ℕ) → List Span → (lone : List Span) → Option Unrenamed
+unless_handed w text cs ss =
+    option_map_or (λ _. unless_alone w text ss)
+    (first_through w calls_argument (map (bytes_of text) cs)) None
+
+-- by arguments of these names, or by such macros
+abbrev pub unless_given : World → (text : List ℕ) → List Span → (lone : List Span) → Option Unrenamed
+unless_given w text cs ss = option_or (unless_arguments w text cs) (unless_handed w text cs ss)
+
 -- by a file that is included there
 abbrev pub unless_included : (text : List ℕ) → Span → List Include → Option Unrenamed
 unless_included text extent is =
@@ -187,7 +208,7 @@ unless_local w name text f facts old new own =
     option_or (unless_names w text f facts.uses old new)
     (option_or (unless_macro w text f old new)
     (option_or (unless_seen name text f facts.uses old)
-    (option_or (unless_arguments w text (callers (touched text f own old) f.arguments))
+    (option_or (unless_given w text (callers (touched text f own old) f.arguments) f.lone)
     (option_or (unless_included text f.extent facts.includes)
     (unless_bytes name text own.uses)))))
 

@@ -173,7 +173,7 @@ client = record {
 }
 
 abbrev found_at : (path : List ℕ) → Reading → Looked
-found_at path found = record { path = path; most = 1000001; alone = true; found = found }
+found_at path found = record { path = path; most = 1000001; only = 3; found = found }
 
 -- what is open is edited
 pub one_is_open : checks (finding []) client work true (codes "a.c" ∷ [])

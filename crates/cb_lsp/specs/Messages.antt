@@ -1,6 +1,7 @@
 -- What a message does to a server, and what is written.
 use Rattle.std.specs.Prelude.{ℕ, Bool, true, false, not, ◌&&◌, ◌||◌, ◌++◌, nat_eq, List, [], ◌∷◌}
-use Rattle.std.specs.Prelude.{codes, Option, None, Some, Result, Ok, Err, if◌then◌else◌}
+use Rattle.std.specs.Prelude.{codes, length, Option, None, Some, Result, Ok, Err}
+use Rattle.std.specs.Prelude.{if◌then◌else◌}
 use Rattle.std.specs.List.{ends_with, flat_map}
 use Rattle.std.specs.Str.{bytes_eq}
 use Rattle.json.specs.Find.{get}
@@ -31,6 +32,7 @@ use Rattle.cb_lsp.specs.Documents.{Document, Looked, Oracle, Reading, Told, Work
 use Rattle.cb_lsp.specs.Documents.{changed, later_refusals, lost_all, told_unless}
 use Rattle.cb_lsp.specs.Documents.{closed, first_found, first_refusal, is_open, is_renewed, later}
 use Rattle.cb_lsp.specs.Documents.{looked_at, looked_by, opened, removed, renewed, saved}
+use Rattle.cb_lsp.specs.FileEvents.{last_events}
 use Rattle.cb_lsp.specs.Params.{changes_in, document_text, event_of, items_in, member_of}
 use Rattle.cb_lsp.specs.Params.{prepares_renames, root_in, takes_trees, takes_utf8, takes_watchers}
 use Rattle.cb_lsp.specs.Params.{text_in, uri_in}
@@ -338,13 +340,16 @@ noticed_of notice o s params (Some uri) =
 abbrev pub may_enter : (path name : List ℕ) → Bool
 may_enter path name = is_document_name name && not (bytes_eq name path)
 
--- the file of a path is read again where it is renewed; one that is not there yet is no link, and
--- has no other name
+-- the name of a file has to be its only one where the file is not there yet
+abbrev pub only_name : Work → (name : List ℕ) → ℕ
+only_name w name = if has_file w.world.files name then 0 else length name
+
+-- the file of a path is read again where it is renewed
 abbrev pub read_renewed : Reading → Work → (may_enter : Bool) → (path name : List ℕ)
     → List Looked
 read_renewed found w may_enter path name =
     if is_renewed w may_enter name
-    then looked_by (not (has_file w.world.files name)) w.world path found ∷ [] else []
+    then looked_by (only_name w name) w.world path found ∷ [] else []
 
 abbrev pub happened_at : FileEvent → Oracle → Serving → Option (List ℕ) → Outcome
 happened_at event o s None = stays s
@@ -377,9 +382,10 @@ all_happened o s (item event more) =
     let first = happened o s event in
     and_then first (all_happened (behind_event o) first.server more)
 
+-- all of a message; one that comes again is passed over
 abbrev pub happened_in : Oracle → Serving → Option Items → Outcome
 happened_in o s None = stays s
-happened_in o s (Some events) = all_happened o s events
+happened_in o s (Some events) = all_happened o s (last_events events)
 
 -- a notification to a server that runs
 abbrev pub noticed_as : Notice → Oracle → Serving → Option Json → Outcome

@@ -103,9 +103,17 @@ abbrev pub told_by_name : Client → World → (file : List ℕ) → List Callee
 told_by_name c w file cs =
     map (called_calls c w.files) (cut_calls 100000 (first_called w file cs))
 
+-- the calls of what has this name at a position of a text, in the order of called names
+abbrev pub calls_at : Client → World → (text name : List ℕ) → Position → List Callee
+calls_at c w text name p =
+    by_name (callees_by c.encoding text name (place c.encoding text p)
+    (facts_in w.profile text).calls)
+
 -- what is called by what has this name at a position of the file of this name and text
 abbrev pub outgoing_calls : Client → World → (file text name : List ℕ) → Position → List Json
-outgoing_calls c w file text name p =
-    told_by_name c w file
-    (by_name (callees_by c.encoding text name (place c.encoding text p)
-    (facts_in w.profile text).calls))
+outgoing_calls c w file text name p = told_by_name c w file (calls_at c w text name p)
+
+-- the files of that, each as often as it is said
+abbrev pub files_called : Client → World → (file text name : List ℕ) → Position → List (List ℕ)
+files_called c w file text name p =
+    map (λ (called : Called). called.0.file) (first_called w file (calls_at c w text name p))

@@ -1,5 +1,5 @@
 -- The files that are read again before a question is answered, where the client does not tell of
--- files that are written: those that define or use the name that is asked about.
+-- files that are written: those that the answer names.
 use Rattle.std.specs.Prelude.{ℕ, Bool, true, false, ◌||◌, ◌++◌, nat_le, List, [], ◌∷◌, length}
 use Rattle.std.specs.Prelude.{map, fold, Option, None, Some, if◌then◌else◌, option_map}
 use Rattle.std.specs.List.{list_any}
@@ -16,6 +16,8 @@ use Rattle.cb_lsp.specs.Documents.{Reading, Told, Work, given, given_found, gone
 use Rattle.cb_lsp.specs.Documents.{no_room, unreadable}
 use Rattle.cb_lsp.specs.Questions.{Asked, folds, in_file, incoming, outgoing, rename}
 use Rattle.cb_lsp.specs.Questions.{workspace_symbols}
+use Rattle.cb_lsp.specs.Outgoing.{files_called}
+use Rattle.cb_lsp.specs.Searches.{found_by}
 use Rattle.cb_lsp.specs.Words.{word_at}
 use Rattle.cb_lsp.specs.declared.question.FileQuestion.{FileQuestion}
 use Rattle.cb_lsp.specs.declared.question.FileQuestion.TheVariants.{At}
@@ -76,16 +78,37 @@ abbrev pub files_of_uses : World → (name : List ℕ) → (uses : Bool) → Lis
 files_of_uses w name true = map (λ (u : Fact). u.file) (uses_of w.profile name w.files)
 files_of_uses w name false = []
 
--- the files of the definitions of a name, and then those of its uses: each of them once, and no
--- more than the most
+-- those of some definitions
+abbrev pub files_of_tags : List Tag → List (List ℕ)
+files_of_tags ts = map (λ (t : Tag). t.file) ts
+
+-- those of the definitions of a name, and then those of its uses
 abbrev pub files_with : World → Option (List ℕ) → (uses : Bool) → List (List ℕ)
 files_with w None uses = []
 files_with w (Some name) uses =
-    fold with_file [] (map (λ (t : Tag). t.file) (tags_named w.profile name w.files)
-    ++ files_of_uses w name uses)
+    files_of_tags (tags_named w.profile name w.files) ++ files_of_uses w name uses
 
+-- those of what is called by what has a name at a position of a file, if there is one
+abbrev pub files_called_in : Client → World → (name : List ℕ) → Position → Option (List ℕ)
+    → List (List ℕ)
+files_called_in c w name p None = []
+files_called_in c w name p (Some file) =
+    if has_file w.files file then files_called c w file (text_of_file w.files file) name p else []
+
+-- those of what is found besides: the symbols of a query, and what is called
+abbrev pub files_besides : Client → World → Asked → List (List ℕ)
+files_besides c w (in_file uri question) = []
+files_besides c w (workspace_symbols query) = files_of_tags (found_by w query)
+files_besides c w (rename uri p new) = []
+files_besides c w (incoming name uri) = []
+files_besides c w (outgoing name uri p) = files_called_in c w name p (name_of_uri c uri)
+files_besides c w (folds uri) = []
+
+-- the files that are read again: each of them once, and no more than the most
 abbrev pub files_asked : Client → World → Asked → List (List ℕ)
-files_asked c w asked = let sought = sought_by c w asked in files_with w sought.name sought.uses
+files_asked c w asked =
+    let sought = sought_by c w asked in
+    fold with_file [] (files_with w sought.name sought.uses ++ files_besides c w asked)
 
 -- ---- what is found
 

@@ -162,7 +162,7 @@ check_read o w path file =
       why =
           if is_open w.documents file then unless_linked file found
           else unless_found file (text_of_file w.world.files file) found;
-      read = looked_by true w.world path found ∷ [];
+      read = looked_by (length file) w.world path found ∷ [];
     }
 
 -- where all files are open, none is read

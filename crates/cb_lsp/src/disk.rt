@@ -13,7 +13,7 @@ use std::alloc::Global;
 pub enum Found {
     /// No file.
     Gone,
-    /// A link, or a file that has a second name, where only a file alone will do.
+    /// A file that is reached by a link or has a second name, where its name has to be its only one.
     Linked,
     /// A file that cannot be read.
     Unreadable,
@@ -25,18 +25,19 @@ pub enum Found {
 
 /// The file system, as a server reads it.
 pub trait Disk {
-    /// A path of which at most so many bytes are read, maybe only of a file that has no other name,
-    /// has this finding.
+    /// A path of which at most so many bytes are read, maybe only of a file that has no other name
+    /// than so many of the last bytes of the path, has this finding.
     ghost finds: { Self → Looked → Type 0 };
 
-    /// The first bytes of the file of a path, at most so many. Where only a file alone will do, a
-    /// link is not followed, and a file that has a second name is not read.
-    fn read(&self, alloc: Global, path: &[u8], most: u64, alone: bool) -> Found
+    /// The first bytes of the file of a path, at most so many. Where `only` is not 0, so many of the
+    /// last bytes of the path are a name that has to be the only one of the file: no link in it is
+    /// followed, the last one or one of a folder, and a file that has a second name is not read.
+    fn read(&self, alloc: Global, path: &[u8], most: u64, only: usize) -> Found
         requires { most < 2 ^ 33 }
         ensures { finds self.now (record {
           path = path.now;
           most = most;
-          alone = alone;
+          only = only;
           found = found_in result;
         }) };
 }

@@ -20,11 +20,13 @@ ghost use Rattle.cb_lsp.specs.Answers.{reply_with};
 ghost use Rattle.cb_lsp.specs.Bodies.{Replies};
 ghost use Rattle.cb_lsp.specs.Documents.{Oracle};
 ghost use Rattle.cb_lsp.specs.LocalRenames.{byte_at, byte_before, callers, edited_unless, first_from};
-ghost use Rattle.cb_lsp.specs.LocalRenames.{is_bad, is_beside_odd, is_hidden, is_joined_at};
+ghost use Rattle.cb_lsp.specs.LocalRenames.{is_bad, is_beside_odd, is_handed, is_hidden, is_joined_at};
 ghost use Rattle.cb_lsp.specs.LocalRenames.{is_joined_before, is_macro_or_type, is_named, is_odd};
 ghost use Rattle.cb_lsp.specs.LocalRenames.{is_special, is_taken, is_use_in, is_used_in, is_within};
 ghost use Rattle.cb_lsp.specs.LocalRenames.{local_edits, renamed_local, unless_arguments};
-ghost use Rattle.cb_lsp.specs.LocalRenames.{unless_bytes, unless_included, unless_local};
+ghost use Rattle.cb_lsp.specs.LocalRenames.{unless_alone, unless_bytes, unless_given, unless_handed};
+ghost use Rattle.cb_lsp.specs.LocalRenames.{unless_included};
+ghost use Rattle.cb_lsp.specs.LocalRenames.{unless_local};
 ghost use Rattle.cb_lsp.specs.LocalRenames.{touched, unless_macro, unless_names, unless_seen};
 ghost use Rattle.cb_lsp.specs.Messages.{reply_unless};
 ghost use Rattle.cb_lsp.specs.steps.LocalRenames.{ends, first_of, local_edits_left};
@@ -39,7 +41,7 @@ use crate::place::bytes_of;
 use crate::rename::{Renaming, Unedited, put_unedited};
 use crate::written::{put_refusal, put_refused};
 use cb_desk::Desk;
-use cb_macros::{Sought, first_through};
+use cb_macros::{Sought, first_through, has_parameters};
 use cb_names::{Arguments, FunctionNames, Local, LocalUse, function_names, takes_member};
 use cb_scan::{Include, Kind, Source, Span, Use, is_name};
 use cb_tags::{Sink, WriteFault};
@@ -254,6 +256,25 @@ fn callers(alloc: Global, spans: &[Span], arguments: &[Arguments]) -> Result<Vec
         from = one.name.end;
         if begins_before(rest, one.end) {
             found.push(one.name)?;
+        }
+    }
+    Ok(found)
+}
+
+/// The names of macros with parameters among some spans.
+fn handed(
+    alloc: Global,
+    desk: &Desk,
+    source: &Source,
+    spans: &[Span],
+) -> Result<Vec<Span>, AllocError>
+    ensures { IfOk result (λ found. found.items
+        ≡ filter (is_handed desk.now.timeline.present source.now) spans.now) }
+{
+    let mut found = Vec::new(alloc);
+    for i in 0..spans.len() {
+        if has_parameters(alloc, desk, bytes_of(source, spans[i]))? {
+            found.push(spans[i])?;
         }
     }
     Ok(found)
@@ -498,6 +519,58 @@ impl<'a> Renaming<'a> {
         }
     }
 
+    /// Why it is not by what macros with parameters make of arguments, whose names stand alone.
+    fn unless_alone(&self, alloc: Global, lone: &[Span]) -> Result<Option<Unedited<'a>>, AllocError>
+        ensures { IfOk result (λ why. option_map reason_of why ≡ unless_alone
+            (work_in self.now).world self.now.asked.source.now lone.now) }
+    {
+        let asked = self.asked;
+        let handed = handed(alloc, asked.desk, asked.source, lone)?;
+        match first_through(
+            alloc,
+            asked.desk,
+            asked.source,
+            handed.as_slice(),
+            Sought::Makes,
+        )? {
+            Some(name) => Ok(Some(Unedited::InArguments(name))),
+            None => Ok(None),
+        }
+    }
+
+    /// Why it is not by these, where one of some names leads to a macro that calls a parameter.
+    fn unless_handed(
+        &self,
+        alloc: Global,
+        callers: &[Span],
+        lone: &[Span],
+    ) -> Result<Option<Unedited<'a>>, AllocError>
+        ensures { IfOk result (λ why. option_map reason_of why ≡ unless_handed
+            (work_in self.now).world self.now.asked.source.now callers.now lone.now) }
+    {
+        let asked = self.asked;
+        match first_through(alloc, asked.desk, asked.source, callers, Sought::Calls)? {
+            Some(_) => self.unless_alone(alloc, lone),
+            None => Ok(None),
+        }
+    }
+
+    /// Why it is not by arguments of some names, or by a macro that is handed to one.
+    fn unless_given(
+        &self,
+        alloc: Global,
+        callers: &[Span],
+        lone: &[Span],
+    ) -> Result<Option<Unedited<'a>>, AllocError>
+        ensures { IfOk result (λ why. option_map reason_of why ≡ unless_given
+            (work_in self.now).world self.now.asked.source.now callers.now lone.now) }
+    {
+        match self.unless_called(alloc, callers)? {
+            Some(why) => Ok(Some(why)),
+            None => self.unless_handed(alloc, callers, lone),
+        }
+    }
+
     /// Why it is not by arguments that hold what must not be touched.
     fn unless_arguments(
         &self,
@@ -506,14 +579,14 @@ impl<'a> Renaming<'a> {
         own: &Local,
         old: &[u8],
     ) -> Result<Option<Unedited<'a>>, AllocError>
-        ensures { IfOk result (λ why. option_map reason_of why ≡ unless_arguments
+        ensures { IfOk result (λ why. option_map reason_of why ≡ unless_given
             (work_in self.now).world self.now.asked.source.now
             (callers (touched self.now.asked.source.now function.now own.now old.now)
-            function.now.arguments)) }
+            function.now.arguments) function.now.lone) }
     {
         let touched = touched(alloc, self.asked.source, function, own, old)?;
         let callers = callers(alloc, touched.as_slice(), function.arguments())?;
-        match self.unless_called(alloc, callers.as_slice()) {
+        match self.unless_given(alloc, callers.as_slice(), function.lone()) {
             Ok(why) => Ok(why),
             Err(error) => Err(error),
         }

@@ -1,5 +1,10 @@
 //! Notifications about documents and files.
 ghost use Rattle.std.specs.Prelude.{◌≡◌};
+ghost use Rattle.json.specs.Value.{items_view, value_view};
+ghost use Rattle.cb_lsp.specs.FileEvents.{comes_again, is_said, is_same_kind, says};
+
+use crate::params::{event_of, text_in};
+use json::Value;
 
 /// A notification that does something.
 #[derive(Clone, Copy, Debug, PartialEq, Eq)]
@@ -25,6 +30,55 @@ pub(crate) enum FileEvent {
     Written,
     /// A file was deleted.
     Gone,
+}
+
+/// So many events behind one are looked at for the same.
+const MOST_AHEAD: usize = 64;
+
+fn is_same_kind(one: FileEvent, other: FileEvent) -> bool
+    ensures { result ≡ is_same_kind one other }
+{
+    match (one, other) {
+        (FileEvent::Written, FileEvent::Written) => true,
+        (FileEvent::Gone, FileEvent::Gone) => true,
+        (FileEvent::Written, FileEvent::Gone) => false,
+        (FileEvent::Gone, FileEvent::Written) => false,
+    }
+}
+
+/// Whether an event says this of the file of a URI.
+fn says(kind: FileEvent, uri: &str, event: &Value<'_>) -> bool
+    ensures { result ≡ says kind uri.now (value_view event.now) }
+{
+    match (event_of(event), text_in(event.get("uri"))) {
+        (Some(other), Some(name)) => is_same_kind(kind, other) && uri == name,
+        _ => false,
+    }
+}
+
+/// Whether one of the first events does.
+fn is_said(kind: FileEvent, uri: &str, events: &[Value<'_>]) -> bool
+    ensures { result ≡ is_said 64 kind uri.now (items_view events.now) }
+{
+    for i in 0..events.len() {
+        if i == MOST_AHEAD {
+            return false;
+        }
+        if says(kind, uri, &events[i]) {
+            return true;
+        }
+    }
+    false
+}
+
+/// Whether an event comes again: one of the next says the same of its file.
+pub(crate) fn comes_again(event: &Value<'_>, more: &[Value<'_>]) -> bool
+    ensures { result ≡ comes_again (value_view event.now) (items_view more.now) }
+{
+    match (event_of(event), text_in(event.get("uri"))) {
+        (Some(kind), Some(uri)) => is_said(kind, uri, more),
+        _ => false,
+    }
 }
 
 impl Notice {

@@ -1,6 +1,6 @@
 //! What functions and macros call.
 ghost use Rattle.std.specs.Prelude.{◌≡◌, ◌≤◌, ◌++◌, ◌∷◌, [], Bool, IfOk, MatchOption, Some, length};
-ghost use Rattle.std.specs.Prelude.{map, take};
+ghost use Rattle.std.specs.Prelude.{fold, map, take};
 ghost use Rattle.std.specs.Cmp.Lexicographic.{slice_cmp};
 ghost use Rattle.std.specs.List.{flat_map, prefix_len};
 ghost use Rattle.std.specs.Ordering.{nat_cmp};
@@ -16,6 +16,8 @@ ghost use Rattle.cb_lsp.specs.Messages.{result_unless};
 ghost use Rattle.cb_lsp.specs.Outgoing.{by_first_call, by_name, called_as, called_calls, callee_of};
 ghost use Rattle.cb_lsp.specs.Outgoing.{callees_by, cut_called, first_called, have_one_name};
 ghost use Rattle.cb_lsp.specs.Outgoing.{is_call_by, told_by_name};
+ghost use Rattle.cb_lsp.specs.Outgoing.{Called};
+ghost use Rattle.cb_lsp.specs.Refresh.{files_called_in, with_file};
 ghost use Rattle.cb_lsp.specs.steps.Located.{client_in};
 ghost use Rattle.cb_lsp.specs.steps.Outgoing.{FirstGroup, called_in, called_rows, callee_in};
 ghost use Rattle.cb_lsp.specs.steps.Outgoing.{callee_rows, group_in, group_rows, outgoing_left};
@@ -26,6 +28,7 @@ use crate::columns::Positions;
 use crate::location::{Forms, Located};
 use crate::meaning::Meaning;
 use crate::place::bytes_of;
+use crate::refresh::FileNames;
 use crate::written::{put_null, put_refusal};
 use cb_desk::Desk;
 use cb_scan::{Call, Source};
@@ -342,6 +345,46 @@ fn callees_by_name<'a>(
     let mut rows = callees_by(alloc, encoding, source, calls, name, place)?;
     sort_by_name(&mut rows)?;
     Ok(rows)
+}
+
+/// Adds the files of what is called by what has a name at a position of a file.
+pub(crate) fn add_called(
+    alloc: Global,
+    forms: Forms<'_>,
+    desk: &Desk,
+    files: &mut FileNames,
+    name: &[u8],
+    file: &[u8],
+    position: Position,
+) -> Result<(), AllocError>
+    ensures { IfOk result (λ _. files.new ≡ fold with_file files.old (files_called_in
+        (client_in forms.entry) desk.now.timeline.present name.now position (Some file.now))) }
+{
+    let Some((source, facts)) = desk.scanned(file) else {
+        return Ok(());
+    };
+    let place = place_of_position(forms.encoding, source.bytes(), position);
+    let rows = callees_by_name(alloc, forms.encoding, source, facts.calls(), name, place)?;
+    let called = called_by(alloc, desk, file, rows.as_slice())?;
+    match add_files(alloc, files, called.as_slice()) {
+        Ok(()) => Ok(()),
+        Err(error) => Err(error),
+    }
+}
+
+/// Adds the files of what is called.
+fn add_files(
+    alloc: Global,
+    files: &mut FileNames,
+    called: &[CalledRow<'_, '_>],
+) -> Result<(), AllocError>
+    ensures { IfOk result (λ _. files.new ≡ fold with_file files.old
+        (map (λ (c : Called). c.0.file) (called_rows called.now))) }
+{
+    for i in 0..called.len() {
+        files.add(alloc, called[i].row.file)?;
+    }
+    Ok(())
 }
 
 /// Writes what calls of a file call, which are in the order of the called names.

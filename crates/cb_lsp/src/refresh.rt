@@ -7,14 +7,19 @@ ghost use Rattle.std.specs.Str.{bytes_eq};
 ghost use Rattle.cb_index.specs.Rows.{Fact, tags_named, uses_of};
 ghost use Rattle.cb_tags.specs.TagLines.{Tag};
 ghost use Rattle.cb_lsp.specs.Models.{asked_of, sought_of};
-ghost use Rattle.cb_lsp.specs.Refresh.{about, files_asked, files_of_uses, files_with, sought_at};
+ghost use Rattle.cb_lsp.specs.Answers.{name_of_uri};
+ghost use Rattle.cb_lsp.specs.Refresh.{about, files_asked, files_besides, files_called_in};
+ghost use Rattle.cb_lsp.specs.Refresh.{files_of_tags, files_of_uses, files_with, sought_at};
 ghost use Rattle.cb_lsp.specs.Refresh.{sought_by, with_file, word_in_uri, word_there};
+ghost use Rattle.cb_lsp.specs.Searches.{found_by};
 ghost use Rattle.cb_lsp.specs.steps.Located.{client_in};
 
 use crate::documents::copy_of;
 use crate::location::Forms;
+use crate::outgoing::add_called;
 use crate::place::bytes_of;
 use crate::question::{FileQuestion, PlaceQuestion, Question};
+use crate::symbols::{FoundTags, MOST_SYMBOLS};
 use crate::word::word_at;
 use cb_desk::Desk;
 use cb_wire::{Position, path_of_uri, place_of_position};
@@ -79,7 +84,7 @@ impl FileNames {
     }
 
     /// Adds a file, unless it is among them or they are the most.
-    fn add(&mut self, alloc: Global, file: &[u8]) -> Result<(), AllocError>
+    pub(crate) fn add(&mut self, alloc: Global, file: &[u8]) -> Result<(), AllocError>
         ensures { IfOk result (λ _. self.new ≡ with_file self.old file.now) }
     {
         if self.holds(file) || self.names.len() >= MOST_REFRESHED {
@@ -91,7 +96,7 @@ impl FileNames {
 
     /// Adds the files of the definitions of a name.
     fn add_definitions(&mut self, alloc: Global, desk: &Desk, name: &[u8]) -> Result<(), AllocError>
-        ensures { IfOk result (λ _. self.new ≡ fold with_file self.old (map (λ (t : Tag). t.file)
+        ensures { IfOk result (λ _. self.new ≡ fold with_file self.old (files_of_tags
             (tags_named desk.now.timeline.present.profile name.now
             desk.now.timeline.present.files))) }
     {
@@ -121,6 +126,91 @@ impl FileNames {
             self.add(alloc, row.file)?;
         }
         Ok(())
+    }
+
+    /// Adds the files of the definitions of a name, and then those of its uses, where they are asked
+    /// for.
+    fn add_sought(
+        &mut self,
+        alloc: Global,
+        desk: &Desk,
+        sought: Sought<'_>,
+    ) -> Result<(), AllocError>
+        ensures { IfOk result (λ _. self.new ≡ fold with_file self.old
+            (files_with desk.now.timeline.present (sought_of sought.entry).name
+            (sought_of sought.entry).uses)) }
+    {
+        match sought.name {
+            Some(name) => {
+                self.add_definitions(alloc, desk, name)?;
+                self.add_uses(alloc, desk, name, sought.uses)
+            }
+            None => Ok(()),
+        }
+    }
+
+    /// Adds the files of the symbols that a query names.
+    fn add_found(&mut self, alloc: Global, desk: &Desk, query: &[u8]) -> Result<(), AllocError>
+        ensures { IfOk result (λ _. self.new ≡ fold with_file self.old
+            (files_of_tags (found_by desk.now.timeline.present query.now))) }
+    {
+        let mut rows = FoundTags::new(desk, query);
+        let mut left = MOST_SYMBOLS;
+        'rows: while left > 0 {
+            let Some(row) = rows.next() else {
+                return Ok(());
+            };
+            self.add(alloc, row.file)?;
+            left -= 1;
+        }
+        Ok(())
+    }
+
+    /// Adds the files of what is called by what has a name at a position of the file of a URI.
+    fn add_called(
+        &mut self,
+        alloc: Global,
+        forms: Forms<'_>,
+        desk: &Desk,
+        name: &[u8],
+        uri: &str,
+        position: Position,
+    ) -> Result<(), AllocError>
+        ensures { IfOk result (λ _. self.new ≡ fold with_file self.old (files_called_in
+            (client_in forms.entry) desk.now.timeline.present name.now position
+            (name_of_uri (client_in forms.entry) uri.now))) }
+    {
+        let Some(path) = path_of_uri(alloc, uri.as_bytes())? else {
+            return Ok(());
+        };
+        let file = forms.root.name(path.as_slice());
+        match add_called(alloc, forms, desk, self, name, file, position) {
+            Ok(()) => Ok(()),
+            Err(error) => Err(error),
+        }
+    }
+
+    /// Adds the files of what is found besides: the symbols of a query, and what is called.
+    fn add_besides(
+        &mut self,
+        alloc: Global,
+        forms: Forms<'_>,
+        desk: &Desk,
+        question: Question<'_>,
+    ) -> Result<(), AllocError>
+        ensures { IfOk result (λ _. self.new ≡ fold with_file self.old (files_besides
+            (client_in forms.entry) desk.now.timeline.present (asked_of question.entry))) }
+    {
+        match question {
+            Question::WorkspaceSymbols(query) => self.add_found(alloc, desk, query.as_bytes()),
+            Question::Outgoing(name, uri, position) => {
+                self.add_called(alloc, forms, desk, name.as_bytes(), uri, position)
+            }
+            Question::InFile(_, _)
+            | Question::Rename(_, _, _)
+            | Question::Incoming(_, _)
+            | Question::Folds(_) => Ok(()),
+        }
     }
 }
 
@@ -221,7 +311,7 @@ fn sought_by<'a>(
 }
 
 /// The files that are read again for a question: those of the definitions of the name that is asked
-/// about, and those of its uses, where the answer is about them.
+/// about, those of its uses, where the answer is about them, and those of what is found besides.
 pub(crate) fn files_asked(
     alloc: Global,
     forms: Forms<'_>,
@@ -232,10 +322,7 @@ pub(crate) fn files_asked(
         desk.now.timeline.present (asked_of question.entry)) }
 {
     let mut files = FileNames::new(alloc);
-    let sought = sought_by(alloc, forms, desk, question)?;
-    if let Some(name) = sought.name {
-        files.add_definitions(alloc, desk, name)?;
-        files.add_uses(alloc, desk, name, sought.uses)?;
-    }
+    files.add_sought(alloc, desk, sought_by(alloc, forms, desk, question)?)?;
+    files.add_besides(alloc, forms, desk, question)?;
     Ok(files)
 }

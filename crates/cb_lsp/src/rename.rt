@@ -271,7 +271,7 @@ impl<'a> Renaming<'a> {
             Err(_) => return Some(Unedited::NoMemory),
         };
         let most = most_read(self.asked.desk);
-        let found = disk.read(alloc, path.as_slice(), most, true);
+        let found = disk.read(alloc, path.as_slice(), most, file.len());
         if self.documents.is_open(file) {
             self.unless_linked(file, found)
         } else {

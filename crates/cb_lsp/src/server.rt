@@ -11,7 +11,7 @@ use crate::callers::put_incoming;
 use crate::disk::{Disk, Found, most_read};
 use crate::folds::put_folds;
 use crate::location::Forms;
-use crate::notice::{FileEvent, Notice};
+use crate::notice::{FileEvent, Notice, comes_again};
 use crate::outgoing::put_outgoing;
 use crate::params;
 use crate::question::{FileQuestion, PlaceQuestion, Question, question_of};
@@ -122,6 +122,7 @@ impl Server {
     ghost use Rattle.cb_lsp.specs.Answers.{answer_named};
     ghost use Rattle.cb_lsp.specs.Messages.{all_lost, asked_reply, dropped, fresh_server};
     ghost use Rattle.cb_lsp.specs.Messages.{happened, happened_at, unread};
+    ghost use Rattle.cb_lsp.specs.FileEvents.{event_if};
     ghost use Rattle.cb_lsp.specs.Messages.{happened_in, initialized, noticed, noticed_at};
     ghost use Rattle.cb_lsp.specs.Messages.{noticed_by, noticed_of, read_behind, registers};
     ghost use Rattle.cb_lsp.specs.Messages.{reply_unless, requested, result_unless, running};
@@ -597,7 +598,7 @@ impl Server {
             (read_behind notice (found_in result) self.now.work path.now name.now) }
     {
         if notice.is_closing() && self.work.documents().is_open(name) {
-            disk.read(alloc, path, most_read(self.work.desk()), false)
+            disk.read(alloc, path, most_read(self.work.desk()), 0)
         } else {
             Found::Gone
         }
@@ -645,10 +646,37 @@ impl Server {
         let Some(events) = params::items_in(params::member(params, "changes")) else {
             return Ok(());
         };
-        'events: for event in events {
-            self.take_event(alloc, disk, out, event)?;
+        'events: for i in 0..events.len() {
+            let event = &events[i];
+            self.take_unless(
+                alloc,
+                disk,
+                out,
+                comes_again(event, &events[i + 1..]),
+                event,
+            )?;
         }
         Ok(())
+    }
+
+    /// Takes a file event, unless it comes again.
+    fn take_unless<D: Disk, W: Write>(
+        &mut self,
+        alloc: Global,
+        disk: &D,
+        out: &mut Sink<W>,
+        again: bool,
+        event: &Value<'_>,
+    ) -> Result<(), WriteFault>
+        ensures { (no_path no_text : Bool) × (found : Reading) × DoesBy (D.finds disk.now) (happened
+            (one_event no_path no_text found) self.old (event_if again (value_view event.now)))
+            self.new out.old out.new result }
+    {
+        if again {
+            Ok(())
+        } else {
+            self.take_event(alloc, disk, out, event)
+        }
     }
 
     /// Takes a file event.
@@ -710,8 +738,8 @@ impl Server {
         if !self.work.renews(name, may_enter(path, name)) {
             return Ok(());
         }
-        let alone = self.work.is_new(name);
-        let found = disk.read(alloc, path, most_read(self.work.desk()), alone);
+        let only = self.work.only_name(name);
+        let found = disk.read(alloc, path, most_read(self.work.desk()), only);
         let told = self.work.give_found(alloc, name, found, None);
         put_told(out, name, told)
     }

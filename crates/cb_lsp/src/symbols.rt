@@ -9,7 +9,11 @@ ghost use Rattle.cb_wire.specs.Values.{value_text};
 ghost use Rattle.cb_lsp.specs.Headers.{files_named};
 ghost use Rattle.cb_lsp.specs.Searches.{is_like, is_name_like};
 ghost use Rattle.cb_lsp.specs.Symbols.{file_symbol_as, session_symbol};
+ghost use Rattle.cb_desk.specs.Tags.{tags};
+ghost use Rattle.cb_desk.specs.declared.rows.Format.TheVariants.{Extended};
+ghost use Rattle.cb_index.specs.Rows.{tags_named};
 ghost use Rattle.cb_lsp.specs.steps.Elements.{client_of_defs, defs_left, file_left, files_left};
+ghost use Rattle.cb_lsp.specs.steps.Elements.{found_left};
 ghost use Rattle.cb_lsp.specs.steps.Elements.{flat_left, places_left, session_left, tree_left};
 
 use crate::columns::Positions;
@@ -18,7 +22,7 @@ use crate::location::{Forms, Located, file_place};
 use crate::meaning::Meaning;
 use crate::place::bytes_of;
 use crate::text::holds_like;
-use cb_desk::{Definitions, Files, TagRows, is_header};
+use cb_desk::{Definitions, Desk, Files, Format, TagRows, is_header};
 use cb_index::TagSpot;
 use cb_scan::Def;
 use cb_tags::TagRow;
@@ -223,6 +227,43 @@ pub(crate) fn keep_like<'a>(rows: &mut TagRows<'a>, query: &[u8], kept: &mut [Ta
         count += 1;
     }
     count
+}
+
+/// The definitions that a query names: those whose name it is, and then those whose name holds it.
+#[derive(Drop)]
+pub(crate) struct FoundTags<'a, 'p> {
+    named: Definitions<'a, 'p>,
+    rest: TagRows<'a>,
+    query: &'p [u8],
+}
+
+impl<'a, 'p> FoundTags<'a, 'p> {
+    /// All of them.
+    pub(crate) fn new(desk: &'a Desk, query: &'p [u8]) -> FoundTags<'a, 'p>
+        ensures { found_left result ≡ tags_named desk.entry.now.timeline.present.profile
+            query.entry.now desk.entry.now.timeline.present.files
+            ++ filter (is_like query.entry.now)
+            (tags Extended desk.entry.now.timeline.present) }
+    {
+        FoundTags {
+            named: desk.definitions(query),
+            rest: desk.tag_rows(Format::Extended),
+            query,
+        }
+    }
+
+    /// The next one.
+    pub(crate) fn next(&mut self) -> Option<TagRow<'a>>
+        ensures { YieldsFirstBy tag_of found_left self.old result self.new }
+    {
+        match self.named.next() {
+            Some(row) => Some(row),
+            None => match next_like(&mut self.rest, self.query) {
+                Some(spot) => Some(spot.row()),
+                None => None,
+            },
+        }
+    }
 }
 
 /// The definitions of the session whose name is a text, and then those that were kept.

@@ -11,7 +11,7 @@ ghost use Rattle.cb_lsp.specs.Documents.{holds, is_renewed, lost_all, opened, re
 ghost use Rattle.cb_lsp.specs.Documents.{taken};
 ghost use Rattle.cb_lsp.specs.Documents.{text_step};
 ghost use Rattle.cb_lsp.specs.Documents.{told_unless, was_lost};
-ghost use Rattle.cb_lsp.specs.Messages.{told_of};
+ghost use Rattle.cb_lsp.specs.Messages.{only_name, told_of};
 ghost use Rattle.cb_lsp.specs.Models.{found_in, kept_in};
 ghost use Rattle.cb_lsp.specs.Params.{changes_among};
 ghost use Rattle.cb_lsp.specs.Refresh.{given_anew};
@@ -342,11 +342,15 @@ impl Workspace {
         !self.documents.is_open(name) && (self.desk.source(name).is_some() || may_enter)
     }
 
-    /// Whether there is no file of this name yet.
-    pub(crate) fn is_new(&self, name: &[u8]) -> bool
-        ensures { result ≡ not (has_file self.now.world.files name.now) }
+    /// How many bytes the name of a file has, which has to be its only one where the file is not
+    /// there yet; 0 where it is.
+    pub(crate) fn only_name(&self, name: &[u8]) -> usize
+        ensures { result ≡ only_name self.now name.now }
     {
-        self.desk.source(name).is_none()
+        match self.desk.source(name) {
+            Some(_) => 0,
+            None => name.len(),
+        }
     }
 
     /// Takes a file away that is gone, unless its document is open; what the client is told.

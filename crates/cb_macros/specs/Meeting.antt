@@ -119,6 +119,18 @@ has_either one other rest =
     list_any (λ (n : MacroName). n.free && (bytes_eq (bytes_of rest n.name) one
     || bytes_eq (bytes_of rest n.name) other)) (macro_parts rest).names
 
+-- it takes arguments
+abbrev pub takes_arguments : (rest : List ℕ) → Bool
+takes_arguments rest = (macro_parts rest).takes
+
+-- the macro of a name does
+abbrev pub has_parameters : World → List ℕ → Bool
+has_parameters w name = list_any takes_arguments (texts w name)
+
+-- it calls an argument, which may be the name of a macro
+abbrev pub calls_argument : (rest : List ℕ) → Bool
+calls_argument rest = (macro_parts rest).calls
+
 -- it may make something else of its arguments
 abbrev pub makes_other : (rest : List ℕ) → Bool
 makes_other rest = (macro_parts rest).odd

@@ -8,4 +8,4 @@
 mod met;
 mod search;
 
-pub use search::{Sought, first_through};
+pub use search::{Sought, first_through, has_parameters};

@@ -9,6 +9,7 @@ ghost use Rattle.cb_scan.specs.declared.lex.piece.Span.{Span as CodeSpan};
 ghost use Rattle.cb_scan.specs.lex.Tokens.{bytes_of};
 ghost use Rattle.cb_tags.specs.TagLines.{tag_of};
 ghost use Rattle.cb_macros.specs.Meeting.{first_of, first_through, found_in, has_either, is_macro};
+ghost use Rattle.cb_macros.specs.Meeting.{has_parameters};
 ghost use Rattle.cb_macros.specs.Meeting.{is_macro_kind, makes_other, meet, meet_all, met_by};
 ghost use Rattle.cb_macros.specs.Meeting.{met_first, met_from, met_through, named_by, names_in};
 ghost use Rattle.cb_macros.specs.Meeting.{rest_if, round, rounds, texts, through_of};
@@ -29,6 +30,10 @@ pub enum Sought<'a> {
     /// What may make something else of the arguments: a text, a part of a name, a member, a tag or
     /// a label.
     Makes,
+    /// Parameters.
+    Takes,
+    /// A parameter that is called.
+    Calls,
 }
 
 fn is_macro_kind(kind: Kind) -> bool
@@ -249,6 +254,8 @@ fn is_sought(rest: &[u8], parts: &Macro, sought: Sought<'_>) -> bool
     match sought {
         Sought::Either(one, other) => has_either(rest, parts, one, other),
         Sought::Makes => parts.is_odd(),
+        Sought::Takes => parts.takes_arguments(),
+        Sought::Calls => parts.calls_parameter(),
     }
 }
 
@@ -324,6 +331,14 @@ fn found_in<'a>(
         [first, ..] => Ok(Some(*first)),
         [] => Ok(None),
     }
+}
+
+/// Whether the macro with a name takes arguments, by any of its definitions. Refused memory is the
+/// only error. Time in proportion to the lines on which it is defined.
+pub fn has_parameters(alloc: Global, desk: &Desk, name: &[u8]) -> Result<bool, AllocError>
+    ensures { IfOk result (λ has. has ≡ has_parameters desk.now.timeline.present name.now) }
+{
+    has_sought(alloc, desk, name, Sought::Takes)
 }
 
 /// Of some names of a text the one through which the first macro is met whose text has what is

@@ -5,7 +5,7 @@ use Rattle.std.specs.Prelude.{ℕ, zero, suc, Bool, true, false, ◌&&◌, ◌||
 use Rattle.std.specs.Prelude.{codes, drop, length, take, if◌then◌else◌}
 use Rattle.std.specs.List.{list_any, prefix_len, range_with_len}
 use Rattle.std.specs.Str.{bytes_eq}
-use Rattle.cb_scan.specs.Bytes.{close_bracket, close_paren, greater, hash}
+use Rattle.cb_scan.specs.Bytes.{close_bracket, close_paren, greater, hash, open_paren}
 use Rattle.cb_scan.specs.CodeTokens.{first_line}
 use Rattle.cb_scan.specs.declared.lex.token.Role.{Role}
 use Rattle.cb_scan.specs.declared.lex.token.Token.{Token}
@@ -137,14 +137,22 @@ is_odd text ps ts k =
 abbrev pub are_odd : List ℕ → (ps ts : List Token) → Bool
 are_odd text ps ts = list_any (is_odd text ps ts) (range_with_len 0 (length ts))
 
+-- index k is a parameter that is called: a `(` is directly behind it
+abbrev pub is_called : List ℕ → (ps ts : List Token) → ℕ → Bool
+is_called text ps ts k = is_parameter text ps ts k && marks open_paren ts (suc k)
+
+abbrev pub are_called : List ℕ → (ps ts : List Token) → Bool
+are_called text ps ts = list_any (is_called text ps ts) (range_with_len 0 (length ts))
+
 -- ---- a macro
 
--- what is known of one: whether it takes arguments, the names of its text, and whether that alone
--- makes it odd
+-- what is known of one: whether it takes arguments, the names of its text, whether that alone makes
+-- it odd, and whether it calls a parameter
 pub record MacroParts : Type 0 where
   pub takes : Bool
   pub names : List MacroName
   pub odd : Bool
+  pub calls : Bool
 
 -- by the tokens of its line in these bytes
 abbrev pub parts_by : List ℕ → List Token → MacroParts
@@ -152,6 +160,7 @@ parts_by text ts = record {
   takes = has_list ts;
   names = own_names text (listed ts) (replacement ts);
   odd = are_odd text (listed ts) (replacement ts);
+  calls = are_called text (listed ts) (replacement ts);
 }
 
 -- of the macro whose name these bytes begin with

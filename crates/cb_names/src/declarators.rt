@@ -655,8 +655,7 @@ impl Codes<'_> {
         let places = self.tokens_between(alloc, index, end)?;
         let own = found.names.len();
         push_parts(alloc, self.shape, places.as_slice(), of_list, found)?;
-        let is_external =
-            !of_list && is_external(self.shape.items.as_slice(), places.as_slice());
+        let is_external = !of_list && is_external(self.shape.items.as_slice(), places.as_slice());
         keep_if(is_external, own, &mut found.names);
         Ok(())
     }

@@ -5,6 +5,7 @@ ghost use Rattle.std.specs.List.{AllByRecursion};
 ghost use Rattle.cb_scan.specs.CodeTokens.{IsSpanOf};
 ghost use Rattle.cb_scan.specs.rules.Depth.{token_at};
 ghost use Rattle.cb_scan.specs.rules.Macros.{begin_arguments};
+ghost use Rattle.cb_names.specs.Macros.{are_called, is_called};
 ghost use Rattle.cb_names.specs.Macros.{adjoins, are_odd, ends_arrow, follows_maker, follows_operand};
 ghost use Rattle.cb_names.specs.Macros.{has_list, has_tag, is_hash, is_listed, is_made, is_member, is_odd, is_own_name};
 ghost use Rattle.cb_names.specs.Macros.{is_parameter, is_tag, list_len, listed, macro_name};
@@ -31,6 +32,7 @@ pub struct Macro {
     takes: bool,
     names: Vec<MacroName>,
     odd: bool,
+    calls: bool,
 }
 
 impl Model for Macro {
@@ -38,7 +40,12 @@ impl Model for Macro {
 
     ghost Value = { MacroParts };
 
-    ghost view = { λ m. record { takes = m.takes; names = m.names.items; odd = m.odd } };
+    ghost view = { λ m. record {
+      takes = m.takes;
+      names = m.names.items;
+      odd = m.odd;
+      calls = m.calls;
+    } };
 }
 
 impl Macro {
@@ -62,6 +69,13 @@ impl Macro {
         ensures { result ≡ self.now.odd }
     {
         self.odd
+    }
+
+    /// Whether its text calls one of its parameters, which may be the name of a macro.
+    pub fn calls_parameter(&self) -> bool
+        ensures { result ≡ self.now.calls }
+    {
+        self.calls
     }
 }
 
@@ -275,6 +289,28 @@ impl Text<'_> {
         }
         odd
     }
+
+    /// Whether a token is a parameter that is called.
+    fn is_called(&self, at: usize) -> bool
+        requires text { IsText self.now }
+        requires within { at < length self.now.tokens.now }
+        ensures { result ≡ is_called self.now.bytes.now self.now.listed.now self.now.tokens.now at }
+    {
+        self.is_parameter(at) && marks(self.tokens, at + 1, b'(')
+    }
+
+    /// Whether one is.
+    fn are_called(&self) -> bool
+        requires { IsText self.now }
+        ensures { result
+            ≡ are_called self.now.bytes.now self.now.listed.now self.now.tokens.now }
+    {
+        let mut called = false;
+        for at in 0..self.tokens.len() {
+            called = either(called, self.is_called(at));
+        }
+        called
+    }
 }
 
 fn either(first: bool, second: bool) -> bool
@@ -380,6 +416,7 @@ fn parts(alloc: Global, bytes: &[u8], tokens: &[Token]) -> Result<Macro, AllocEr
         takes: has_list(tokens),
         names,
         odd: text.are_odd(),
+        calls: text.are_called(),
     })
 }
 

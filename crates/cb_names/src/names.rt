@@ -328,7 +328,11 @@ fn unsure_of(alloc: Global, shape: &Shape) -> Result<Vec<Span>, AllocError>
     let enums = enums_of(alloc, items)?;
     let mut found = Vec::new(alloc);
     for at in 0..items.len() as u32 {
-        push_span_if(is_unsure(shape, enums.as_slice(), at), span_at(items, at), &mut found)?;
+        push_span_if(
+            is_unsure(shape, enums.as_slice(), at),
+            span_at(items, at),
+            &mut found,
+        )?;
     }
     Ok(found)
 }

@@ -39,7 +39,7 @@ disk_over finds shows does old new =
 
 -- this is found under a name, where at most so many bytes are read
 abbrev pub looks : (name : List ℕ) → (most : ℕ) → Reading → Looked
-looks name most found = record { path = name; most = most; alone = false; found = found }
+looks name most found = record { path = name; most = most; only = 0; found = found }
 
 -- a file is found as it is
 abbrev pub IsFound : (Looked → Type 0) → (most : ℕ) → File → Type 0

@@ -1,5 +1,5 @@
 -- The elements of lists that are written.
-use Rattle.std.specs.Prelude.{ℕ, Bool, ◌++◌, List, [], ◌∷◌, map}
+use Rattle.std.specs.Prelude.{ℕ, Bool, ◌++◌, List, [], ◌∷◌, filter, map}
 use Rattle.std.specs.Prelude.{Option, None, Some, true, false}
 use Rattle.std.specs.Borrow.{Bor}
 use Rattle.json.specs.Print.{escape}
@@ -14,6 +14,7 @@ use Rattle.cb_lsp.specs.Headers.{files_named}
 use Rattle.cb_lsp.specs.Highlights.{highlight, uses_of}
 use Rattle.cb_lsp.specs.Hovers.{hover_line, hover_text}
 use Rattle.cb_lsp.specs.Locals.{local_mark, token_place, uses_wanted}
+use Rattle.cb_lsp.specs.Searches.{is_like}
 use Rattle.cb_lsp.specs.Symbols.{file_place, file_symbol_as, place_of, place_of_use}
 use Rattle.cb_lsp.specs.Symbols.{session_symbol}
 use Rattle.cb_lsp.specs.declared.calls.CallItems.{CallItems}
@@ -27,6 +28,7 @@ use Rattle.cb_lsp.specs.declared.meaning.Meaning.{Meaning}
 use Rattle.cb_lsp.specs.declared.references.UsePlaces.{UsePlaces}
 use Rattle.cb_lsp.specs.declared.symbols.FileDefs.{FileDefs}
 use Rattle.cb_lsp.specs.declared.symbols.FlatSymbols.{FlatSymbols}
+use Rattle.cb_lsp.specs.declared.symbols.FoundTags.{FoundTags}
 use Rattle.cb_lsp.specs.declared.symbols.HeaderFiles.{HeaderFiles}
 use Rattle.cb_lsp.specs.declared.symbols.OneFile.{OneFile}
 use Rattle.cb_lsp.specs.declared.symbols.Places.{Places}
@@ -73,6 +75,9 @@ abbrev pub session_left : SessionSymbols → List (List ℕ)
 session_left s =
     map (λ t. value_text (session_symbol s.places.client s.places.files t))
     (s.named ++ map tag_of_spot s.kept.now)
+
+abbrev pub found_left : FoundTags → List Tag
+found_left f = f.named ++ filter (is_like f.query.now) f.rest
 
 abbrev pub files_left : HeaderFiles → List (List ℕ)
 files_left h =

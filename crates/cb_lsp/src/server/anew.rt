@@ -39,7 +39,7 @@ impl Server {
             Ok(path) => path,
             Err(_) => return put_told(out, name, Some("out of memory")),
         };
-        let found = disk.read(alloc, path.as_slice(), most_read(self.work.desk()), false);
+        let found = disk.read(alloc, path.as_slice(), most_read(self.work.desk()), 0);
         let told = self.work.give_anew(alloc, name, found);
         put_told(out, name, told)
     }

@@ -39,7 +39,7 @@ fn read_operand<D: Disk>(
         × IsFound (D.finds disk.now) (most_read bounds) (file_of_operand o))
         (StopsAt (D.finds disk.now) (most_read bounds) name.now place) }
 {
-    match disk.read(alloc, name.as_bytes(), most_read(bounds), false) {
+    match disk.read(alloc, name.as_bytes(), most_read(bounds), 0) {
         Found::Holds(bytes) => match Vec::from_slice(alloc, name.as_bytes()) {
             Ok(name) => Ok(Operand { name, bytes }),
             Err(_) => Err(OUT_OF_MEMORY),

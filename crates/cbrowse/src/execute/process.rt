@@ -44,28 +44,41 @@ fn read_open<F: Read + OpenFile + Drop>(
     read_whole(alloc, most, file, found.len())
 }
 
-/// Whether the file of a path has no other name: the path is not that of a link, and no other path
-/// leads to it.
-fn is_alone<R: Files>(rt: &R, path: &str) -> io::Result<bool> {
-    let found = fs::symlink_metadata(rt, path)?;
-    Ok(!found.is_symlink() && found.nlink() <= 1)
+/// Whether the last bytes of a path, so many, are the only name of its file: no other path leads to
+/// it, and none of the folders and files that they name is a link. Any are where there are none.
+fn is_alone<R: Files + AllocGlobal>(rt: &R, path: &str, only: usize) -> io::Result<bool> {
+    if only == 0 {
+        return Ok(true);
+    }
+    let Some((folder, name)) = path.split_at_checked(path.len().saturating_sub(only)) else {
+        return Ok(false);
+    };
+    if fs::metadata(rt, path)?.nlink() > 1 {
+        return Ok(false);
+    }
+    let folder = rt.canonicalize(rt.alloc(), folder)?;
+    let file = rt.canonicalize(rt.alloc(), path)?;
+    match file.strip_prefix(folder.as_path()) {
+        Ok(below) => Ok(below.as_str() == name),
+        Err(_) => Ok(false),
+    }
 }
 
-/// The first bytes of a regular file, at most so many; of one that has no other name, if only that
-/// will do. What is none is not opened, since a pipe waits for a writer; another one may have come
+/// The first bytes of a regular file, at most so many; where `only` is not 0, of one whose only name
+/// are so many of the last bytes of the path. What is none is not opened, since a pipe waits for a writer; another one may have come
 /// to the name meanwhile.
 fn read_regular<R: Files + AllocGlobal>(
     rt: &R,
     most: u64,
     path: &str,
-    alone: bool,
+    only: usize,
 ) -> io::Result<Found>
     requires { most < 2 ^ 33 }
 {
     if !fs::metadata(rt, path)?.is_file() {
         return Err(io::Error::from(ErrorKind::InvalidInput));
     }
-    if alone && !is_alone(rt, path)? {
+    if !is_alone(rt, path, only)? {
         return Ok(Found::Linked);
     }
     let bytes = read_open(rt.alloc(), most, fs::open(rt, path)?, true)?;
@@ -75,11 +88,11 @@ fn read_regular<R: Files + AllocGlobal>(
 impl<R: Files + AllocGlobal> Disk for Process<'_, R> {
     ghost finds = { λ process looked. Unit {0} };
 
-    fn read(&self, _alloc: Global, path: &[u8], most: u64, alone: bool) -> Found {
+    fn read(&self, _alloc: Global, path: &[u8], most: u64, only: usize) -> Found {
         let Ok(path) = str::from_utf8(path) else {
             return Found::Unreadable;
         };
-        match read_regular(self.rt, most, path, alone) {
+        match read_regular(self.rt, most, path, only) {
             Ok(found) => found,
             Err(error) => match error.kind() {
                 ErrorKind::NotFound | ErrorKind::NotADirectory => Found::Gone,

@@ -1,4 +1,4 @@
-use Rattle.std.proofs.Common.{◌∙◌, true, false, Some, refl, sym}
+use Rattle.std.proofs.Common.{◌∙◌, true, false, length, Some, refl, sym}
 use Rattle.cb_wire.specs.Uris.{path_below}
 use Rattle.cb_lsp.specs.Documents.{gone}
 use Rattle.cb_lsp.specs.Models.{found_in}
@@ -32,7 +32,7 @@ returns-then-is_open g c =
       check-found finds found (client_in f.asked.forms) w c.args.file.now c.unless_linked.result
           c.args.all_open true (sym c.is_never_edited.ensures ∙ c.if-is_never_edited.false)
           c.if-all_open.false (sym c.is_open.ensures ∙ c.if-is_open.true) c.unless_linked.ensures
-          (looked-so finds true w.world w.world.bounds path _ _ found
+          (looked-so finds (length c.args.file.now) w.world w.world.bounds path _ _ found
           (c.as_slice.ensures.value ∙ c.in-Ok.ensures) c.most_read-most.ensures.value refl
           c.read-found.ensures),
     )
@@ -49,7 +49,7 @@ returns g c =
       check-found finds found (client_in f.asked.forms) w c.args.file.now c.unless_found.result
           c.args.all_open false (sym c.is_never_edited.ensures ∙ c.if-is_never_edited.false)
           c.if-all_open.false (sym c.is_open.ensures ∙ c.if-is_open.false) c.unless_found.ensures
-          (looked-so finds true w.world w.world.bounds path _ _ found
+          (looked-so finds (length c.args.file.now) w.world w.world.bounds path _ _ found
           (c.as_slice.ensures.value ∙ c.in-Ok.ensures) c.most_read-most.ensures.value refl
           c.read-found.ensures),
     )

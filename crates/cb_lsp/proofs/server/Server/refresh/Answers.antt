@@ -37,7 +37,7 @@ returns g c =
           c.self.view_is
           (subst (λ ds. is_open ds name ≡ false) c.documents.ensures
           (sym c.is_open.ensures ∙ c.if-is_open.false)) told.ensures.1 c.put_told-2.ensures
-          (looked-so finds false c.self.inside.work.world _
+          (looked-so finds 0 c.self.inside.work.world _
           (path_below c.self.inside.root.path name) _ _ found
           (c.as_slice.ensures.value ∙ c.in-Ok.ensures) c.most_read.ensures.value
           (ap (λ (w : World). w.bounds) c.desk.ensures) c.read-found.ensures),

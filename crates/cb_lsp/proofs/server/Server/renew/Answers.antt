@@ -19,9 +19,9 @@ returns g c =
           c.args.path.now name told.new.self (option_copied told.result) c.args.out.now
           c.put_told.new.out c.put_told.result c.self.view_is c.name-name.ensures renews
           told.ensures.1 c.put_told.ensures
-          (subst (λ b. finds (looked_by b c.self.inside.work.world c.args.path.now
-          (found_in c.read-found.result))) c.is_new-alone.ensures
-          (looked-so finds c.is_new-alone.result c.self.inside.work.world _ c.args.path.now _ _
+          (subst (λ n. finds (looked_by n c.self.inside.work.world c.args.path.now
+          (found_in c.read-found.result))) c.only_name-only.ensures
+          (looked-so finds c.only_name-only.result c.self.inside.work.world _ c.args.path.now _ _
           (found_in c.read-found.result) refl c.most_read.ensures.value
           (ap (λ (w : World). w.bounds) c.desk.ensures) c.read-found.ensures)),
     )
