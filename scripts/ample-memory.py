@@ -5,10 +5,12 @@
 
 `make test` runs it on the program that it built. Where a contract says that memory may be refused,
 a program that gives up at a round number would be proved. So each run below goes past some: 65,536
-definitions, files and bytes of a block, 1,048,576 facts of one file, 65,536 changes, 4,096 files.
-All that is written is compared with what this script counts from the sources that it makes. Then
-come files that cannot be read, folders that are not there and wrong words, each of which has its
-own message. The exit status is 1 where a check failed.
+definitions, files, names of a list and bytes of a block, 1,048,576 facts of one file, 65,536
+changes, 4,096 files, 10,000 words, 16 million bytes of a block, 12 million of a message. An editor
+asks each kind of question at the end of a large document, below a root with a long path. All that
+is written is compared with what this script counts from the sources that it makes. Then come files
+that cannot be read, folders that are not there and wrong words, each of which has its own message.
+The exit status is 1 where a check failed.
 """
 
 from __future__ import annotations
@@ -30,7 +32,13 @@ DEFINITIONS = 70_000
 LINES = 1_100_000  # each has a use and a call
 CHANGES = 66_000
 FILES = 5_000
+NAMES = 71_000  # of one file
+WORDS = 12_000
 BLOCK = 70_000
+LARGE = 20_000_000
+BODY = 12_000_000
+WIDEST = ["--max-files", "1048576", "--max-file-bytes", "268435456"]
+LONG = "l" * 200
 REFUSED = b"out of memory"
 
 
@@ -130,6 +138,40 @@ class Checks:
         want = session(rows([row]), DONE, DONE, rows(found), DONE, DONE)
         self.expect("5,000 files", self.run(words, given), (0, want, b""))
 
+    def names(self) -> None:
+        """71,000 names of one file, by a list, and 12,000 of them by words."""
+        (self.folder / "d").mkdir()
+        names = [f"d/{number:05}.c" for number in range(NAMES)]
+        for name in names:
+            self.write(name, b"int d(void) {\n}\n")
+        self.write("names.list", b"".join(name.encode() + b"\n" for name in names))
+        rows_of = [b"%s d 1 int d(void) {\n" % name.encode() for name in names]
+        words = ["find", *WIDEST, "--files-from", "names.list", "1", "d"]
+        self.expect("71,000 names", self.run(words), (0, b"".join(rows_of), b""))
+        words = ["find", *WIDEST, "1", "d", *names[:WORDS]]
+        self.expect("12,000 words", self.run(words), (0, b"".join(rows_of[:WORDS]), b""))
+        asked = frame("initialize", 1, {"rootUri": f"file://{self.folder}", "capabilities": {}})
+        asked += frame("workspace/symbol", 2, {"query": "d"})
+        asked += frame("shutdown", 3, None) + frame("exit", None, None)
+        status, out, said = self.run(["lsp", *WIDEST, *names[:FILES]], asked)
+        found = dict(replies_in(out)).get(2) or []
+        self.expect("an editor of 5,000 files", (status, said, len(found)), (0, b"", 1_000))
+
+    def large(self) -> None:
+        """Changes of all kinds in a session of large files with long names."""
+        text = b"int g(void) {\n" + b"\tw();\n" * (LARGE // 6) + b"}\n"
+        row = b"%s.c g 1 int g(void) {" % LONG.encode()
+        given = b":load g.c %d\n%s" % (len(text), text)
+        given += b":rename g.c %s.c\n1g\n:tag g\n:pop\n5int g\n:markall\n" % LONG.encode()
+        given += b":to long k\n1k\n" + b":undo\n" * 7
+        want = [DONE, DONE, rows([row]), DONE, DONE, rows([row.replace(b" g 1", b" <unknown> 1")])]
+        want += [DONE, DONE, rows([row.replace(b" g 1 int g", b" k 1 long k")]), *[DONE] * 7]
+        self.expect("20 million bytes", self.run(["line", *WIDEST], given), (0, session(*want), b""))
+        self.write("f.c", b"int f(void) {\n}\n")
+        self.expect("a long name", self.run(["tags", "-f", LONG, "f.c"]), (0, b"", b""))
+        want = b"f\tf.c\t/^int f(void) {$/\n"
+        self.expect("the file of a long name", self.read(LONG), want)
+
     def blocks(self) -> None:
         """Blocks of 70,000 bytes."""
         text = b"int b(void) {\n" + b" " * (BLOCK - 17) + b"\n}\n"
@@ -143,20 +185,28 @@ class Checks:
     # ---- an editor
 
     def editor(self) -> None:
-        """A document of 70,000 functions, a change of 70,000 bytes, and 70,000 uses."""
+        """A document of 70,000 functions, a change of 70,000 bytes, and 70,000 uses; below a root
+        with a long path, and beside a document of 12 million bytes."""
+        root = f"file://{self.folder}/{LONG}/{LONG}"
         text = b"".join(b"int f%d(void) {\n}\n" % n for n in range(DEFINITIONS)).decode()
         text += "int u(void) {\n" + "u();\n" * BLOCK + "}\n"
-        uri = f"file://{self.folder}/e.c"
+        uri = f"{root}/{LONG}.c"
         document = {"uri": uri}
         place = {"line": 2 * DEFINITIONS, "character": 4}
         note = {"text": "/*" + "x" * BLOCK + "*/\n", "range": None}
         at = {"line": 0, "character": 0}
         note["range"] = {"start": at, "end": at}
         asked = {"textDocument": document, "position": {**place, "line": place["line"] + 1}}
+        typed = {"textDocument": document, "position": {**asked["position"], "character": 5}}
         opened = {"uri": uri, "languageId": "c", "version": 1, "text": text}
+        first = 2 * DEFINITIONS + 1  # the line of `int u(void) {` after the change
+        item = {"name": "u", "kind": 12, "uri": uri, "range": line_range(first, 0, 13)}
+        item["selectionRange"] = line_range(first, 4, 5)
+        large = f"{root}/large.c"
+        body = "/*" + "x" * BODY + "*/\nint large(void) {\n}\n"
         changed = {"textDocument": {"uri": uri, "version": 2}, "contentChanges": [note]}
         messages = (
-            ("initialize", 1, {"rootUri": f"file://{self.folder}", "capabilities": {}}),
+            ("initialize", 1, {"rootUri": root, "capabilities": {}}),
             ("initialized", None, {}),
             ("textDocument/didOpen", None, {"textDocument": opened}),
             ("textDocument/documentSymbol", 2, {"textDocument": document}),
@@ -164,28 +214,59 @@ class Checks:
             ("textDocument/references", 3, {**asked, "context": {"includeDeclaration": True}}),
             ("textDocument/rename", 4, {**asked, "newName": "v"}),
             ("textDocument/foldingRange", 5, {"textDocument": document}),
-            ("shutdown", 6, None),
+            ("textDocument/definition", 6, asked),
+            ("textDocument/hover", 7, asked),
+            ("textDocument/documentHighlight", 8, asked),
+            ("textDocument/completion", 9, typed),
+            ("textDocument/prepareRename", 10, asked),
+            ("textDocument/prepareCallHierarchy", 11, asked),
+            ("callHierarchy/incomingCalls", 12, {"item": item}),
+            ("callHierarchy/outgoingCalls", 13, {"item": item}),
+            ("workspace/symbol", 14, {"query": "u"}),
+            ("textDocument/didOpen", None, {"textDocument": {**opened, "uri": large, "text": body}}),
+            ("textDocument/documentSymbol", 15, {"textDocument": {"uri": large}}),
+            ("shutdown", 16, None),
             ("exit", None, None),
         )
-        status, out, said = self.run(
-            ["lsp", "--max-file-bytes", "4000000"], b"".join(frame(*it) for it in messages)
-        )
+        status, out, said = self.run(["lsp", *WIDEST], b"".join(frame(*it) for it in messages))
         replies = dict(replies_in(out))
         self.expect("an editor", (status, said), (0, b""))
-        self.expect("an editor, its replies", list(replies), [1, 2, 3, 4, 5, 6])
-        if list(replies) != [1, 2, 3, 4, 5, 6]:
+        self.expect("an editor, its replies", list(replies), list(range(1, 17)))
+        if list(replies) != list(range(1, 17)):
             return
+        self.questions(replies, uri, first)
         names = [it["name"] for it in replies[2]]
         want = [f"f{n}" for n in range(DEFINITIONS)] + ["u"]
         self.expect("an editor, 70,001 symbols", names, want)
         lines = [it["range"]["start"]["line"] for it in replies[3]]
-        first = 2 * DEFINITIONS + 1
         self.expect("an editor, 70,001 uses", lines, list(range(first, first + BLOCK + 1)))
         edits = [len(edits) for edits in replies[4]["changes"].values()]
         self.expect("an editor, 70,001 edits", edits, [BLOCK + 1])
         folds = [it["startLine"] for it in replies[5]]
         want = list(range(1, 2 * DEFINITIONS + 2, 2))
         self.expect("an editor, 70,001 folds", folds, want)
+
+    def questions(self, replies: dict, uri: str, first: int) -> None:
+        """What an editor is told at the end of that document."""
+        name, line = line_range(first, 4, 5), line_range(first, 0, 13)
+        place = {"uri": uri, "range": name}
+        item = {"name": "u", "kind": 12, "uri": uri, "range": line, "selectionRange": name}
+        calls = [line_range(one, 0, 1) for one in range(first + 1, first + BLOCK + 1)]
+        hover = {"kind": "plaintext", "value": f"{LONG}.c:{first + 1}\nint u(void) {{"}
+        for number, want in (
+            (6, [place]),
+            (7, {"contents": hover, "range": name}),
+            (8, [{"range": it} for it in [name, *calls]]),
+            (9, {"isIncomplete": False, "items": [{"label": "u", "kind": 3}]}),
+            (10, name),
+            (11, [item]),
+            (12, [{"from": item, "fromRanges": calls}]),
+            (13, [{"to": item, "fromRanges": calls}]),
+            (14, [{"name": "u", "kind": 12, "location": place}]),
+        ):
+            self.expect(f"an editor, reply {number}", replies[number], want)
+        names = [it["name"] for it in replies[15]]
+        self.expect("an editor, a message of 12 million bytes", names, ["large"])
 
     # ---- what goes wrong for another reason
 
@@ -237,6 +318,14 @@ def short(value) -> str:
     return text if len(text) < 400 else f"{text[:200]} .. {text[-150:]}"
 
 
+def line_range(line: int, start: int, end: int) -> dict:
+    """The range of some characters of a line."""
+    return {
+        "start": {"line": line, "character": start},
+        "end": {"line": line, "character": end},
+    }
+
+
 def frame(method: str, number: Optional[int], params: Optional[dict]) -> bytes:
     message = {"jsonrpc": "2.0", "method": method, "params": params}
     if number is not None:
@@ -250,6 +339,8 @@ def replies_in(out: bytes) -> Iterator[tuple]:
     while out:
         head, _, out = out.partition(b"\r\n\r\n")
         size = int(head.removeprefix(b"Content-Length: "))
+        if len(out) < size:
+            return  # a reply that is cut off is none
         message, out = json.loads(out[:size]), out[size:]
         yield message.get("id", message.get("method")), message.get("result")
 
@@ -270,6 +361,8 @@ def main() -> int:
             checks.facts,
             checks.changes,
             checks.files,
+            checks.names,
+            checks.large,
             checks.blocks,
             checks.editor,
             checks.reasons,
