@@ -6,11 +6,11 @@
 `make test` runs it on the program that it built. Where a contract says that memory may be refused,
 a program that gives up at a round number would be proved. So each run below goes past some: 65,536
 definitions, files, names of a list and bytes of a block, 1,048,576 facts of one file, 65,536
-changes, 4,096 files, 10,000 words, 16 million bytes of a block, 12 million of a message. An editor
-asks each kind of question at the end of a large document, below a root with a long path. All that
-is written is compared with what this script counts from the sources that it makes. Then come files
-that cannot be read, folders that are not there and wrong words, each of which has its own message.
-The exit status is 1 where a check failed.
+changes, 4,096 files, 10,000 words, 16 million bytes of a block, 12 million of a message. Blocks and
+questions begin with each byte. An editor asks each kind of question at the end of a large document,
+below a root with a long path. All that is written is compared with what this script counts from the
+sources that it makes. Then come files that cannot be read, folders that are not there and wrong
+words, each of which has its own message. The exit status is 1 where a check failed.
 """
 
 from __future__ import annotations
@@ -181,6 +181,18 @@ class Checks:
         want = session(DONE, DONE, rows([b"b.c b 1 int b(void) {"]), DONE, DONE)
         self.expect("blocks of 70,000 bytes", len(text), BLOCK)
         self.expect("a block of 70,000 bytes", self.run(["line"], given), (0, want, b""))
+
+    def bytes_of_all_values(self) -> None:
+        """Blocks that begin with each byte, and questions that do, each a line."""
+        given, want = b"", []
+        for byte in range(256):
+            given += b":load b%d.c 3\n%cx\n" % (byte, byte)
+            want.append(DONE)
+        for byte in (it for it in range(256) if it != ord("\n")):
+            given += b"4%cx\n" % byte
+            shown = b"%cx" % byte
+            want.append(rows([b"b%d.c <unknown> 1 %s" % (byte, shown.lstrip(b" \t"))]))
+        self.expect("all bytes", self.run(["line"], given), (0, session(*want), b""))
 
     # ---- an editor
 
@@ -364,6 +376,7 @@ def main() -> int:
             checks.names,
             checks.large,
             checks.blocks,
+            checks.bytes_of_all_values,
             checks.editor,
             checks.reasons,
         ):
