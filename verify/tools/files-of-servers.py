@@ -14,7 +14,8 @@ Odd     names with signs of a shell are listed. Names with a blank, a `$`, a bac
         outside ASCII or too long, and files that are too large are left out, and told with how many
         they are
 Bounds  --max-files and --max-file-bytes leave out more, and are handed on
-Profile --wide is handed on by default and not with --standard; --prototypes is handed on with it
+Profile --wide is handed on by default and not with --standard, and of the two the last one counts;
+        --prototypes is handed on with it
 Root    is the folder without links in its path; --root names another one
 Names   closed files are edited under one name alone: not if a hard link from elsewhere leads to
         one. By a link to the root they are edited below the folder that it leads to. Files that
@@ -301,6 +302,8 @@ def profiles(place: Spied) -> None:
     for words, handed in [
         ((), ["--wide"]),
         (("--standard",), []),
+        (("--standard", "--wide", "-R"), ["--wide"]),
+        (("-R", "--wide", "--standard"), []),
         (("--prototypes",), ["--wide", "--prototypes"]),
         (("--prototypes", "--max-files", 2), ["--wide", "--prototypes", "--max-files=2"]),
         (("--max-files", 2, "--standard"), ["--max-files=2"]),
@@ -413,7 +416,7 @@ def input_and_ends(place: Spied) -> None:
     for words, expected, told in [
         (("--max-files",), 2, "cbrowse-lsp: --max-files needs a value\n"),
         (("--max-files", "x"), 2, "cbrowse-lsp: x: a number from 1 up is needed\n"),
-        (("--wide",), 2, "cbrowse-lsp: --wide: no such option\n"),
+        (("--tags",), 2, "cbrowse-lsp: --tags: no such option\n"),
         (("--standard", "--prototypes"), 2, neither),
         (("--prototypes", "--standard"), 2, neither),
         (("a.c",), 2, "cbrowse-lsp: a.c: no such option\n"),

@@ -12,7 +12,10 @@ Odd     names with blanks, in quotes or not, and in UTF-8, with a backquote, a `
 None    a folder is no list: an old list stays, and the status is 1.
 Away    a list in another folder is read there, whatever CDPATH says; names that the way to it makes
         too long, or gives a blank, are left out and told.
-Profile a variable is found in each mode, and not with --standard; another long option is refused.
+Profile a variable is found in each mode, and not with --standard; of --wide and --standard the last
+        one counts; another long option is refused.
+Pattern by -L the fields 0 to 3 take a name alone, also between ^ and $; anything else and -C are
+        refused, with what to do. Line by line it is found nowhere.
 Ends    no standard input, no program and no temporary folder: status 1. A session ends by a signal
         and when the editor goes away. Nothing is left behind.
 Others  a source and a database of cscope are left alone, unless -W or --force is given. What is
@@ -105,7 +108,7 @@ def odd_names(place: Place) -> None:
     found = place.writes("-b", "-i", "\033[2J", below="feeds")
     told = [b"cbrowse-cscope: \\x1b[2J: cannot be read\n"]
     check("a message is one write, without control bytes", found == told, found)
-    for word in "--help", "-h", "--version":
+    for word in "--help", "-h", "--version", "-V":
         status, out, heard = place.run(word)
         check(word, status == 0 and out.startswith(b"cbrowse-cscope") and heard == "", heard)
 
@@ -163,9 +166,46 @@ def profiles(place: Place) -> None:
         found = place.run("-dl", *words, "a.c", below="profiles", stdin="1v\n")
         out = b">> cscope: %d lines\n%s>> " % (len(rows) > 0, rows)
         check("the same, line by line", found == (0, out, ""), found)
+    for words, rows in (["--standard", "--wide"], row), (["--wide", "--standard"], b""):
+        found = place.run("-L", *words, "-1", "v", "a.c", below="profiles")
+        check(f"a variable {' '.join(words)}", found == (0, rows, ""), found)
     status, _, said = place.run("-L", "--stand", "-1", "v", "a.c", below="profiles")
     told = "cbrowse-cscope: --stand: no such option\n"
     check("another long option", (status, said) == (2, told), said)
+
+
+def patterns(place: Place) -> None:
+    """What is asked for in place of a name."""
+    place.put("patterns/a.c", "int f(void) {\n\treturn g_1();\n}\n")
+    is_none = ": not a name of C; -L takes no expressions\n"
+    f = b"a.c f 1 int f(void) {\n"
+    g = b"a.c f 2 return g_1();\n"
+    for field, asked, rows in [
+        ("0", "^f$", f),
+        ("1", "f", f),
+        ("2", "f$", b"a.c g_1 2 return g_1();\n"),
+        ("3", "^g_1", g),
+        ("1", "_0", b""),
+        ("4", "^f$", b""),
+        ("7", "a.c", b"a.c <unknown> 1 <unknown>\n"),
+    ]:
+        found = place.run("-L", f"-{field}", asked, "a.c", below="patterns")
+        check(f"{field}{asked}", found == (0, rows, ""), found)
+    for field in "0123":
+        for asked in "ma.n", "^^f", "f$$", "f*", "1f", "f g", "g-1":
+            found = place.run("-L", f"-{field}", asked, "a.c", below="patterns")
+            check(f"{field}{asked}", found == (2, b"", f"cbrowse-cscope: {asked}{is_none}"), found)
+            found = place.run("-l", "a.c", below="patterns", stdin=f"{field}{asked}\n")
+            out = b">> cscope: 0 lines\n>> "
+            check("the same, line by line", found == (0, out, ""), found)
+        told = f"cbrowse-cscope: a name is needed, as in -L -{field} NAME\n"
+        for asked in "", "^", "$", "^$":
+            found = place.run("-L", f"-{field}", asked, "a.c", below="patterns")
+            check(f"no name: {field}{asked}", found == (2, b"", told), found)
+    told = "cbrowse-cscope: -C is not taken: case matters in names of C; leave it out\n"
+    for words in ["-lC"], ["-C", "-L", "-1", "f"], ["-b", "-C"]:
+        found = place.run(*words, "a.c", below="patterns")
+        check(f"-C in {words}", found == (2, b"", told), found)
 
 
 def ends(place: Place) -> None:
@@ -354,6 +394,7 @@ def main() -> int:
         odd_names(place)
         away(place)
         profiles(place)
+        patterns(place)
         ends(place)
         sessions(place)
         others(place)

@@ -107,6 +107,12 @@ def whole(place: Place) -> None:
     status, out, said = place.run("-f", "-", "many")
     check("standard output", status == 0 and out == one(place, sorted(names)), said)
     check("no progress where nobody looks", said == "", said)
+    for words, expected in (
+        (["-R", "--standard", "--wide", "-o", "-"], one(place, sorted(names))),
+        (["--wide", "--standard", "-o-"], one(place, sorted(names), "--standard")),
+    ):
+        status, out, said = place.run(*words, "many")
+        check(f"one tags file {' '.join(words)}", (status, out, said) == (0, expected, ""), said)
 
 
 def questions(place: Place) -> None:
@@ -307,7 +313,7 @@ def names_given(place: Place) -> None:
         said,
     )
     check("nothing to take", place.run(below="given")[0] == 2)
-    for word in "--help", "-h", "--version":
+    for word in "--help", "-h", "--version", "-V":
         status, out, said = place.run(word)
         check(word, status == 0 and out.startswith(b"cbrowse-tree") and said == "", (out, said))
 
