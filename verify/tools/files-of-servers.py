@@ -273,9 +273,10 @@ def odd_names(place: Spied) -> None:
         names, _, said = place.listed(below="odd")
         check(f"odd names, {what}", (names, said) == (expected, told), (names, said))
         git(place.folder / "odd", "init")
+    place.put("odd/\1.c")
     place.put("odd/line\nfeed.c")
     place.put("odd/line\n/etc/fits.c")
-    told = left(7, "with a bad name", *large)
+    told = left(8, "with a bad name", *large)
     for what in "with git", "without git":
         names, _, said = place.listed(below="odd")
         check(f"line feeds in names, {what}", (names, said) == (expected, told), (names, said))
@@ -433,8 +434,14 @@ def input_and_ends(place: Spied) -> None:
     found = place.writes("--root", "\033[2J")
     told = [b"cbrowse-lsp: \\x1b[2J: no such folder\n"]
     check("a message is one write, without control bytes", found == told, found)
-    status, out, said = place.run("--version")
-    check("--version", status == 0 and out.startswith(b"cbrowse-lsp of cbrowse "), out)
+    for word in "--version", "-V":
+        status, out, said = place.run(word)
+        check(word, status == 0 and out.startswith(b"cbrowse-lsp of cbrowse "), out)
+    place.put("removed/a.c")
+    gone = ["sh", "-c", 'cd removed && rm -r ../removed && exec sh "$0"', place.script]
+    status, _, said = place.run_by(gone, TMPDIR=room)
+    told = "cbrowse-lsp: the current folder was removed: start in another one\n"
+    check("a current folder that was removed", status == 1 and said.endswith(told), said)
     status, out, said = place.run("--help")
     check("--help", status == 0 and out.startswith(b"cbrowse-lsp [OPTION..]\n"), out)
     check("temporary files", left_over(room) == [], os.listdir(room))

@@ -18,9 +18,10 @@ Pattern by -L the fields 0 to 3 take a name alone, also between ^ and $; anythin
         refused, with what to do. Line by line it is found nowhere.
 Ends    no standard input, no program and no temporary folder: status 1. A session ends by a signal
         and when the editor goes away. Nothing is left behind.
-Others  a source and a database of cscope are left alone, unless -W or --force is given. What is
-        browsed and an operand are left alone even so, under whatever name. The mode of an old list
-        is kept. On a full disk the old list stays as it was, and two runs at once do not mix.
+Others  a text and a database of cscope are left alone, unless -W or --force is given. What is
+        browsed, an operand and what is named like a source are left alone even so. The mode of an
+        old list is kept. On a full disk the old list stays as it was, and two runs at once do not
+        mix.
 """
 
 from __future__ import annotations
@@ -290,6 +291,7 @@ def others(place: Place) -> None:
     folder = place.folder / "others"
     is_none = ": cannot be written: it is not a list (-W replaces it)\n"
     is_one = ": cannot be written: it is a source or an operand\n"
+    is_source = ": cannot be written: a name that ends in .c or .h is a source's\n"
 
     def run(name: str, *words: str) -> tuple[int, str, str]:
         """Status, standard error, and what stands there then."""
@@ -298,9 +300,9 @@ def others(place: Place) -> None:
 
     place.put("others/a.c")
     for name, text in [
-        ("s.c", "int f(void) {\n}\n"),
-        ("comment.c", "//a.c\nint f(void) {\n}\n"),
-        ("name.c", "//a.c\n"),
+        ("source", "int f(void) {\n}\n"),
+        ("comment", "//a.c\nint f(void) {\n}\n"),
+        ("name", "//a.c\n"),
         ("Makefile", "a.c\nb.o\n"),
         ("cscope.out", "cscope 15 $HOME -c\n"),
     ]:
@@ -321,19 +323,23 @@ def others(place: Place) -> None:
     place.put("others/empty.c", "")
     os.link(folder / "a.c", folder / "hard")
     (folder / "soft").symlink_to("a.c")
-    for name, words in [
-        ("a.c", ["a.c"]),
-        ("a.c", []),
-        ("hard", ["a.c"]),
-        ("soft", ["-R"]),
-        ("names", ["-i", "names"]),
-        ("names", ["a.c", "names"]),
-        ("empty.c", ["a.c", "empty.c"]),
+    place.put("others/other.h", "a.c\n")
+    (folder / "away").symlink_to("other.h")
+    for name, why, words in [
+        ("hard", is_one, ["a.c"]),
+        ("names", is_one, ["-i", "names"]),
+        ("names", is_one, ["a.c", "names"]),
+        ("a.c", is_source, ["a.c"]),
+        ("a.c", is_source, []),
+        ("soft", is_source, ["-R"]),
+        ("empty.c", is_source, ["a.c"]),
+        ("other.h", is_source, ["a.c"]),
+        ("away", is_source, ["a.c"]),
     ]:
         before = (folder / name).read_text()
         status, said, text = run(name, "-W", *words)
         said = said.splitlines(keepends=True)[-1]
-        told = f"cbrowse-cscope: {name}{is_one}"
+        told = f"cbrowse-cscope: {name}{why}"
         check(f"{name} and -W over {words}", (status, said, text) == (1, told, before), said)
     (folder / "cscope.files").write_text("a.c\n")
     status, said, text = run("cscope.files")
