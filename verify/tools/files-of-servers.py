@@ -19,7 +19,8 @@ Profile --wide is handed on by default and not with --standard, and of the two t
 Root    is the folder without links in its path; --root names another one
 Names   closed files are edited under one name alone: not if a hard link from elsewhere leads to
         one. By a link to the root they are edited below the folder that it leads to. Files that
-        are written, gone or behind a link while the server runs are found as they are then
+        are written or behind a link while the server runs are found as they are then, and one that
+        is gone as it was
 Input   what the editor writes is what the program reads, to the byte
 Ends    an editor that shuts the server down gets status 0, and one that goes away 1; wrong words
         get 2, no such folder or program 1. No temporary file is left
@@ -393,7 +394,8 @@ def names(place: Spied) -> None:
     found = client.definitions()
     check("a link has taken its place", found == [("a.c", 1)], found)
     (root / "a.c").unlink()
-    check("it is gone", client.definitions() == [])
+    found = client.definitions()
+    check("it is gone, and keeps its text", found == [("a.c", 1)], found)
     check("the end", client.end() == 0)
 
 
