@@ -29,8 +29,17 @@ printable() {
 
 # A message, in one write. Where a line of progress is `shown`, it makes room.
 shown=
+messages=2
 say() {
-    printf '%s%s: %s\n' "$shown" "$self" "$(printf %s "$1" | printable)" >&2
+    printf '%s%s: %s\n' "$shown" "$self" "$(printf %s "$1" | printable)" >&"$messages"
+}
+
+# From here on standard error has messages alone, by descriptor 9: what the shell and other programs
+# say of a full disk is not shown.
+quiet() {
+    (: >&2) || exec 2>/dev/null
+    exec 9>&2 2>/dev/null
+    messages=9
 }
 
 fail() {
@@ -102,14 +111,19 @@ open_nameless() {
     exec 3>"$made" 4<"$made" && rm "$made" && made=
 }
 
-# Sets the file to write: where a link leads, or this name. A file that is there and not empty has
-# to be of a kind, if `force` is not set: is_own looks at its text.
+# Sets the file to write: where a link leads, or this name. Neither may be named like a source. A
+# file that is there and not empty has to be of a kind, if `force` is not set: is_own looks at its
+# text.
 aim() { # NAME KIND OPTION
     aimed=$1 out=$1
     case $out in -*) out=./$out ;; esac
     if [ -h "$out" ] && { [ -f "$out" ] || [ ! -e "$out" ]; }; then
         out=$(readlink -f "$out") || fail 1 "$1: cannot be written"
     fi
+    case $1$feed$out in *.[ch] | *.[ch]"$feed"*)
+        fail 1 "$1: cannot be written: a name that ends in .c or .h is a source's"
+        ;;
+    esac
     if [ -d "$out" ] || { [ -e "$out" ] && [ ! -w "$out" ]; }; then fail 1 "$1: cannot be written"; fi
     [ "$force" ] || [ ! -f "$out" ] || [ ! -s "$out" ] || is_own 2>/dev/null <"$out" ||
         fail 1 "$1: cannot be written: it is not a $2 ($3 replaces it)"

@@ -22,7 +22,7 @@ _cbrowse() {
     "cbrowse lsp --max-files") kind=none ;;
     "cbrowse lsp --max-file-bytes") kind=none ;;
     "cbrowse lsp --files-from") kind=files ;;
-    "cbrowse-tree -f") kind=files ;;
+    "cbrowse-tree -f" | "cbrowse-tree -o") kind=files ;;
     "cbrowse-tree --format") words='1 2' ;;
     "cbrowse-tree -L") kind=files ;;
     "cbrowse-tree --questions") kind=files ;;
@@ -30,7 +30,7 @@ _cbrowse() {
     "cbrowse-tree -j") kind=none ;;
     "cbrowse-tree -S") kind=none ;;
     "cbrowse-tree --sshloginfile") kind=files ;;
-    "cbrowse-tree find -f") kind=files ;;
+    "cbrowse-tree find -f" | "cbrowse-tree find -o") kind=files ;;
     "cbrowse-tree find --format") words='1 2' ;;
     "cbrowse-tree find -L") kind=files ;;
     "cbrowse-tree find --questions") kind=files ;;
@@ -59,11 +59,11 @@ _cbrowse() {
         'cbrowse tags') words='-x -f --force --format --wide --prototypes --max-files --max-file-bytes --files-from -h --help' ;;
         'cbrowse lsp') words='--root --wide --prototypes --max-files --max-file-bytes --files-from -h --help' ;;
         'cbrowse help') words='' ;;
-        'cbrowse-tree') words='-f --format -x --standard --prototypes -L --questions --exclude -j --all --force --verbose --no-progress -S --sshloginfile --transfer -h --help --version' ;;
-        'cbrowse-tree find') words='-f --format -x --standard --prototypes -L --questions --exclude -j --all --force --verbose --no-progress -S --sshloginfile --transfer -h --help --version' ;;
-        'cbrowse-cscope') words='-b -l -L -f -i -R -d -P -A --standard -W --force -h --help --version' ;;
-        'cbrowse-graph') words='--callees --callers --depth --nodes --standard -L --exclude -j -h --help --version' ;;
-        'cbrowse-lsp') words='--root --standard --prototypes --max-files --max-file-bytes -h --help --version' ;;
+        'cbrowse-tree') words='-f -o --format -x --wide --standard --prototypes -L --questions --exclude -j -R --all --force --verbose --no-progress -S --sshloginfile --transfer -h --help -V --version' ;;
+        'cbrowse-tree find') words='-f -o --format -x --wide --standard --prototypes -L --questions --exclude -j -R --all --force --verbose --no-progress -S --sshloginfile --transfer -h --help -V --version' ;;
+        'cbrowse-cscope') words='-b -l -L -f -i -R -d -P -A --wide --standard -W --force -h --help -V --version' ;;
+        'cbrowse-graph') words='--callees --callers --depth --nodes --wide --standard -L --exclude -j -R -h --help -V --version' ;;
+        'cbrowse-lsp') words='--root --wide --standard --prototypes --max-files --max-file-bytes -R -h --help -V --version' ;;
         esac ;;
         *) if [ "$COMP_CWORD" -eq "$at" ]; then case $name in
         'cbrowse') words='line find tags lsp help' ;;

@@ -14,11 +14,13 @@ Odd     names with signs of a shell are listed. Names with a blank, a `$`, a bac
         outside ASCII or too long, and files that are too large are left out, and told with how many
         they are
 Bounds  --max-files and --max-file-bytes leave out more, and are handed on
-Profile --wide is handed on by default and not with --standard; --prototypes is handed on with it
+Profile --wide is handed on by default and not with --standard, and of the two the last one counts;
+        --prototypes is handed on with it
 Root    is the folder without links in its path; --root names another one
 Names   closed files are edited under one name alone: not if a hard link from elsewhere leads to
         one. By a link to the root they are edited below the folder that it leads to. Files that
-        are written, gone or behind a link while the server runs are found as they are then
+        are written or behind a link while the server runs are found as they are then, and one that
+        is gone as it was
 Input   what the editor writes is what the program reads, to the byte
 Ends    an editor that shuts the server down gets status 0, and one that goes away 1; wrong words
         get 2, no such folder or program 1. No temporary file is left
@@ -272,9 +274,10 @@ def odd_names(place: Spied) -> None:
         names, _, said = place.listed(below="odd")
         check(f"odd names, {what}", (names, said) == (expected, told), (names, said))
         git(place.folder / "odd", "init")
+    place.put("odd/\1.c")
     place.put("odd/line\nfeed.c")
     place.put("odd/line\n/etc/fits.c")
-    told = left(7, "with a bad name", *large)
+    told = left(8, "with a bad name", *large)
     for what in "with git", "without git":
         names, _, said = place.listed(below="odd")
         check(f"line feeds in names, {what}", (names, said) == (expected, told), (names, said))
@@ -301,6 +304,8 @@ def profiles(place: Spied) -> None:
     for words, handed in [
         ((), ["--wide"]),
         (("--standard",), []),
+        (("--standard", "--wide", "-R"), ["--wide"]),
+        (("-R", "--wide", "--standard"), []),
         (("--prototypes",), ["--wide", "--prototypes"]),
         (("--prototypes", "--max-files", 2), ["--wide", "--prototypes", "--max-files=2"]),
         (("--max-files", 2, "--standard"), ["--max-files=2"]),
@@ -389,7 +394,8 @@ def names(place: Spied) -> None:
     found = client.definitions()
     check("a link has taken its place", found == [("a.c", 1)], found)
     (root / "a.c").unlink()
-    check("it is gone", client.definitions() == [])
+    found = client.definitions()
+    check("it is gone, and keeps its text", found == [("a.c", 1)], found)
     check("the end", client.end() == 0)
 
 
@@ -413,7 +419,7 @@ def input_and_ends(place: Spied) -> None:
     for words, expected, told in [
         (("--max-files",), 2, "cbrowse-lsp: --max-files needs a value\n"),
         (("--max-files", "x"), 2, "cbrowse-lsp: x: a number from 1 up is needed\n"),
-        (("--wide",), 2, "cbrowse-lsp: --wide: no such option\n"),
+        (("--tags",), 2, "cbrowse-lsp: --tags: no such option\n"),
         (("--standard", "--prototypes"), 2, neither),
         (("--prototypes", "--standard"), 2, neither),
         (("a.c",), 2, "cbrowse-lsp: a.c: no such option\n"),
@@ -430,8 +436,14 @@ def input_and_ends(place: Spied) -> None:
     found = place.writes("--root", "\033[2J")
     told = [b"cbrowse-lsp: \\x1b[2J: no such folder\n"]
     check("a message is one write, without control bytes", found == told, found)
-    status, out, said = place.run("--version")
-    check("--version", status == 0 and out.startswith(b"cbrowse-lsp of cbrowse "), out)
+    for word in "--version", "-V":
+        status, out, said = place.run(word)
+        check(word, status == 0 and out.startswith(b"cbrowse-lsp of cbrowse "), out)
+    place.put("removed/a.c")
+    gone = ["sh", "-c", 'cd removed && rm -r ../removed && exec sh "$0"', place.script]
+    status, _, said = place.run_by(gone, TMPDIR=room)
+    told = "cbrowse-lsp: the current folder was removed: start in another one\n"
+    check("a current folder that was removed", status == 1 and said.endswith(told), said)
     status, out, said = place.run("--help")
     check("--help", status == 0 and out.startswith(b"cbrowse-lsp [OPTION..]\n"), out)
     check("temporary files", left_over(room) == [], os.listdir(room))

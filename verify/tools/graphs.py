@@ -149,8 +149,10 @@ def cut(place: Place) -> None:
         (["main", "nowhere"], 1),
         (["main"], 2),
         (["-j1", "--", "main", "tree"], 0),
+        (["-R", "--standard", "--wide", "main", "tree"], 0),
         (["--help"], 0),
         (["--version"], 0),
+        (["-V"], 0),
     ):
         status, out, said = place.run(*words)
         is_told = (said != "") == (expected != 0)

@@ -12,12 +12,16 @@ Odd     names with blanks, in quotes or not, and in UTF-8, with a backquote, a `
 None    a folder is no list: an old list stays, and the status is 1.
 Away    a list in another folder is read there, whatever CDPATH says; names that the way to it makes
         too long, or gives a blank, are left out and told.
-Profile a variable is found in each mode, and not with --standard; another long option is refused.
+Profile a variable is found in each mode, and not with --standard; of --wide and --standard the last
+        one counts; another long option is refused.
+Pattern by -L the fields 0 to 3 take a name alone, also between ^ and $; anything else and -C are
+        refused, with what to do. Line by line it is found nowhere.
 Ends    no standard input, no program and no temporary folder: status 1. A session ends by a signal
         and when the editor goes away. Nothing is left behind.
-Others  a source and a database of cscope are left alone, unless -W or --force is given. What is
-        browsed and an operand are left alone even so, under whatever name. The mode of an old list
-        is kept. On a full disk the old list stays as it was, and two runs at once do not mix.
+Others  a text and a database of cscope are left alone, unless -W or --force is given. What is
+        browsed, an operand and what is named like a source are left alone even so. The mode of an
+        old list is kept. On a full disk the old list stays as it was, and two runs at once do not
+        mix.
 """
 
 from __future__ import annotations
@@ -105,7 +109,7 @@ def odd_names(place: Place) -> None:
     found = place.writes("-b", "-i", "\033[2J", below="feeds")
     told = [b"cbrowse-cscope: \\x1b[2J: cannot be read\n"]
     check("a message is one write, without control bytes", found == told, found)
-    for word in "--help", "-h", "--version":
+    for word in "--help", "-h", "--version", "-V":
         status, out, heard = place.run(word)
         check(word, status == 0 and out.startswith(b"cbrowse-cscope") and heard == "", heard)
 
@@ -163,9 +167,46 @@ def profiles(place: Place) -> None:
         found = place.run("-dl", *words, "a.c", below="profiles", stdin="1v\n")
         out = b">> cscope: %d lines\n%s>> " % (len(rows) > 0, rows)
         check("the same, line by line", found == (0, out, ""), found)
+    for words, rows in (["--standard", "--wide"], row), (["--wide", "--standard"], b""):
+        found = place.run("-L", *words, "-1", "v", "a.c", below="profiles")
+        check(f"a variable {' '.join(words)}", found == (0, rows, ""), found)
     status, _, said = place.run("-L", "--stand", "-1", "v", "a.c", below="profiles")
     told = "cbrowse-cscope: --stand: no such option\n"
     check("another long option", (status, said) == (2, told), said)
+
+
+def patterns(place: Place) -> None:
+    """What is asked for in place of a name."""
+    place.put("patterns/a.c", "int f(void) {\n\treturn g_1();\n}\n")
+    is_none = ": not a name of C; -L takes no expressions\n"
+    f = b"a.c f 1 int f(void) {\n"
+    g = b"a.c f 2 return g_1();\n"
+    for field, asked, rows in [
+        ("0", "^f$", f),
+        ("1", "f", f),
+        ("2", "f$", b"a.c g_1 2 return g_1();\n"),
+        ("3", "^g_1", g),
+        ("1", "_0", b""),
+        ("4", "^f$", b""),
+        ("7", "a.c", b"a.c <unknown> 1 <unknown>\n"),
+    ]:
+        found = place.run("-L", f"-{field}", asked, "a.c", below="patterns")
+        check(f"{field}{asked}", found == (0, rows, ""), found)
+    for field in "0123":
+        for asked in "ma.n", "^^f", "f$$", "f*", "1f", "f g", "g-1":
+            found = place.run("-L", f"-{field}", asked, "a.c", below="patterns")
+            check(f"{field}{asked}", found == (2, b"", f"cbrowse-cscope: {asked}{is_none}"), found)
+            found = place.run("-l", "a.c", below="patterns", stdin=f"{field}{asked}\n")
+            out = b">> cscope: 0 lines\n>> "
+            check("the same, line by line", found == (0, out, ""), found)
+        told = f"cbrowse-cscope: a name is needed, as in -L -{field} NAME\n"
+        for asked in "", "^", "$", "^$":
+            found = place.run("-L", f"-{field}", asked, "a.c", below="patterns")
+            check(f"no name: {field}{asked}", found == (2, b"", told), found)
+    told = "cbrowse-cscope: -C is not taken: case matters in names of C; leave it out\n"
+    for words in ["-lC"], ["-C", "-L", "-1", "f"], ["-b", "-C"]:
+        found = place.run(*words, "a.c", below="patterns")
+        check(f"-C in {words}", found == (2, b"", told), found)
 
 
 def ends(place: Place) -> None:
@@ -250,6 +291,7 @@ def others(place: Place) -> None:
     folder = place.folder / "others"
     is_none = ": cannot be written: it is not a list (-W replaces it)\n"
     is_one = ": cannot be written: it is a source or an operand\n"
+    is_source = ": cannot be written: a name that ends in .c or .h is a source's\n"
 
     def run(name: str, *words: str) -> tuple[int, str, str]:
         """Status, standard error, and what stands there then."""
@@ -258,9 +300,9 @@ def others(place: Place) -> None:
 
     place.put("others/a.c")
     for name, text in [
-        ("s.c", "int f(void) {\n}\n"),
-        ("comment.c", "//a.c\nint f(void) {\n}\n"),
-        ("name.c", "//a.c\n"),
+        ("source", "int f(void) {\n}\n"),
+        ("comment", "//a.c\nint f(void) {\n}\n"),
+        ("name", "//a.c\n"),
         ("Makefile", "a.c\nb.o\n"),
         ("cscope.out", "cscope 15 $HOME -c\n"),
     ]:
@@ -281,19 +323,23 @@ def others(place: Place) -> None:
     place.put("others/empty.c", "")
     os.link(folder / "a.c", folder / "hard")
     (folder / "soft").symlink_to("a.c")
-    for name, words in [
-        ("a.c", ["a.c"]),
-        ("a.c", []),
-        ("hard", ["a.c"]),
-        ("soft", ["-R"]),
-        ("names", ["-i", "names"]),
-        ("names", ["a.c", "names"]),
-        ("empty.c", ["a.c", "empty.c"]),
+    place.put("others/other.h", "a.c\n")
+    (folder / "away").symlink_to("other.h")
+    for name, why, words in [
+        ("hard", is_one, ["a.c"]),
+        ("names", is_one, ["-i", "names"]),
+        ("names", is_one, ["a.c", "names"]),
+        ("a.c", is_source, ["a.c"]),
+        ("a.c", is_source, []),
+        ("soft", is_source, ["-R"]),
+        ("empty.c", is_source, ["a.c"]),
+        ("other.h", is_source, ["a.c"]),
+        ("away", is_source, ["a.c"]),
     ]:
         before = (folder / name).read_text()
         status, said, text = run(name, "-W", *words)
         said = said.splitlines(keepends=True)[-1]
-        told = f"cbrowse-cscope: {name}{is_one}"
+        told = f"cbrowse-cscope: {name}{why}"
         check(f"{name} and -W over {words}", (status, said, text) == (1, told, before), said)
     (folder / "cscope.files").write_text("a.c\n")
     status, said, text = run("cscope.files")
@@ -354,6 +400,7 @@ def main() -> int:
         odd_names(place)
         away(place)
         profiles(place)
+        patterns(place)
         ends(place)
         sessions(place)
         others(place)

@@ -23,14 +23,16 @@ Odd names  what cbrowse does not take is listed once for each reason, with how m
            write. Folders named `!`, `(` and `-x`, and a tags file named `-t`, are taken.
 Ends       numbers that begin with 0; a tags file that is a link, a pipe or the name of another's
            folder; no standard error; a program in a folder of PATH that does not begin with /;
-           folders that cannot be read (as root, who runs as nobody).
+           folders that cannot be read (as root, who runs as nobody), by their names.
 Others     a file that is not a tags file is left alone, unless --force is given; a source, an
-           operand and a list are left alone even so, under whatever name. The mode of an old tags
-           file is kept. Two runs at once do not mix. A signal leaves an old tags file as it was.
+           operand and a list are left alone even so, under whatever name, and so is any name of a
+           source. The mode of an old tags file is kept. Two runs at once do not mix. A signal
+           leaves an old tags file as it was.
 Changes    files and folders that come, go and change meanwhile are taken or listed as left out.
 Failures   an old tags file stays as it was, and the status is 1, where a folder is not there, where
            the program or `sort` fails, and where the temporary folder is full: each size of a small
-           one is tried (as root alone, with `mount`). So it is where its own folder is full.
+           one is tried (as root alone, with `mount`), and one line says so. So it is where its
+           own folder is full.
 """
 
 from __future__ import annotations
@@ -39,6 +41,7 @@ import contextlib
 import os
 import pathlib
 import random
+import re
 import shutil
 import signal
 import subprocess
@@ -107,6 +110,12 @@ def whole(place: Place) -> None:
     status, out, said = place.run("-f", "-", "many")
     check("standard output", status == 0 and out == one(place, sorted(names)), said)
     check("no progress where nobody looks", said == "", said)
+    for words, expected in (
+        (["-R", "--standard", "--wide", "-o", "-"], one(place, sorted(names))),
+        (["--wide", "--standard", "-o-"], one(place, sorted(names), "--standard")),
+    ):
+        status, out, said = place.run(*words, "many")
+        check(f"one tags file {' '.join(words)}", (status, out, said) == (0, expected, ""), said)
 
 
 def questions(place: Place) -> None:
@@ -307,7 +316,7 @@ def names_given(place: Place) -> None:
         said,
     )
     check("nothing to take", place.run(below="given")[0] == 2)
-    for word in "--help", "-h", "--version":
+    for word in "--help", "-h", "--version", "-V":
         status, out, said = place.run(word)
         check(word, status == 0 and out.startswith(b"cbrowse-tree") and said == "", (out, said))
 
@@ -450,6 +459,13 @@ def ends(place: Place) -> None:
         status == 1 and (place.folder / "old").read_text() == OLD,
         said,
     )
+    for name in "it's", "a\\'7", "pc%s", "n\nl":
+        place.put(f"shut/{name}/a.c", TEXT)
+        (place.folder / f"shut/{name}").chmod(0)
+    status, out, said = place.run_by(nobody, "--verbose", "-f", "-", "shut", "few")
+    names = "a\\x5c'7", "it's", "n\\x0al", "pc%s"
+    told = "".join(f"cbrowse-tree: shut/{name}: cannot be read\n" for name in names)
+    check("folders below that cannot be read", (status, out, said) == (0, expected, told), said)
     (place.folder / "old").chmod(0o444)
     status, _, said = place.run_by(nobody, "-f", "old", "few")
     check(
@@ -471,6 +487,7 @@ def others(place: Place) -> None:
     }
     is_none = ": cannot be written: it is not a tags file (--force replaces it)\n"
     is_one = ": cannot be written: it is a source or an operand\n"
+    is_source = ": cannot be written: a name that ends in .c or .h is a source's\n"
 
     def run(name: str, *words: object) -> tuple[int, str, str]:
         """Status, standard error, and what stands there then."""
@@ -506,24 +523,29 @@ def others(place: Place) -> None:
     os.link(folder / "s/a.c", folder / "hard")
     (folder / "soft").symlink_to("s/a.c")
     (folder / "s/linked.c").symlink_to("../soft")
-    for name, words in [
-        ("s/a.c", ["s"]),
-        ("hard", ["s"]),
-        ("soft", ["s"]),
-        ("s/a.c", ["s/linked.c"]),
-        ("list", ["-L", "list"]),
-        ("list", ["s", "list"]),
-        ("empty.c", ["."]),
-        ("empty.c", ["s", "empty.c"]),
+    place.put("others/other.h", "int x;\n")
+    (folder / "away").symlink_to("other.h")
+    for name, why, words in [
+        ("hard", is_one, ["s"]),
+        ("list", is_one, ["-L", "list"]),
+        ("list", is_one, ["s", "list"]),
+        ("s/a.c", is_source, ["s"]),
+        ("s/a.c", is_source, ["s/linked.c"]),
+        ("soft", is_source, ["s"]),
+        ("empty.c", is_source, ["s"]),
+        ("other.h", is_source, ["s"]),
+        ("away", is_source, ["s/a.c"]),
     ]:
         before = (folder / name).read_text()
-        found = run(name, "--force", *words)
-        told = f"cbrowse-tree: {name}{is_one}"
-        check(f"{name} by --force over {words}", found == (1, told, before), found)
+        for force in [], ["--force"]:
+            found = run(name, *force, *words)
+            is_kept = found[::2] == (1, before)
+            is_told = found[1] == f"cbrowse-tree: {name}{why}" or (not force and why == is_one)
+            check(f"{name} {' '.join(force)} over {words}", is_kept and is_told, found)
+    status, _, said = place.run("-f", "new.c", "s", below="others")
+    is_right = (status, said) == (1, f"cbrowse-tree: new.c{is_source}")
+    check("a new name of a source", is_right and not (folder / "new.c").exists(), said)
     check("and no other file", not list(folder.glob("*.[0-9]*")), os.listdir(folder))
-    place.put("others/other.c", "int x;\n")
-    found = run("other.c", "--force", "s")
-    check("a source of no tree is replaced by --force", found == (0, "", expected), found)
 
 
 def at_once(place: Place) -> None:
@@ -678,7 +700,7 @@ def failures(place: Place) -> None:
                 is_whole = held == one(place, names).decode()
                 check(f"a temporary folder of {blocks * 4} kB is enough", is_whole, said)
                 return
-            if held != OLD or said == "":
+            if held != OLD or not re.fullmatch("cbrowse-tree: .*: cannot be written\n", said):
                 check(f"a temporary folder of {blocks * 4} kB", False, (status, said, held[:80]))
     check("a temporary folder is never enough", False)
 
