@@ -18,8 +18,8 @@ Braces that are nested, open and closed, are shown by the wide profile too.
 The language server has one document of about a million bytes. The rows after `server:` show the
 least processor time of several equal messages, each hard one beside an ordinary one in as many
 bytes: a query that begins as each name goes on, over names of 30,000 bytes; the symbols of one line
-with a letter outside ASCII, backwards; 2,000 parts of a change at the end of the document, beside a
-whole text; and nested braces, opened and folded.
+with a letter outside ASCII, backwards; 2,000 parts of a change at the end of the document, at both
+ends in turn and anywhere, beside a whole text; and nested braces, opened and folded.
 
 No tags are asked for: each tag shows its whole line, so that n definitions on one line have n times
 its length of them.
@@ -146,14 +146,27 @@ def whole(server, text):
     return [server.change(DOCUMENT, text.decode()), server.symbols(TINY)]
 
 
-def parts(number):
-    """So many blanks are put to the end of a document, by one message."""
+def at_end(number, last):
+    return last
+
+
+def at_both_ends(number, last):
+    return last * (number % 2)
+
+
+def anywhere(number, last):
+    return number * 2_654_435_761 % 2**32 * last // 2**32
+
+
+def parts(number, line_of=at_end):
+    """So many blanks are put to lines of a document, one after another, by one message."""
 
     def messages(server, text):
-        end = {"line": text.count(b"\n"), "character": 0}
-        change = {"range": {"start": end, "end": end}, "text": " "}
+        last = text.count(b"\n")
+        places = [{"line": line_of(one, last), "character": 0} for one in range(number)]
+        changes = [{"range": {"start": it, "end": it}, "text": " "} for it in places]
         document = {"uri": server.uri(DOCUMENT), "version": 2}
-        params = {"textDocument": document, "contentChanges": [change] * number}
+        params = {"textDocument": document, "contentChanges": changes}
         return [frame("textDocument/didChange", params), server.symbols(TINY)]
 
     return messages
@@ -189,6 +202,8 @@ def put_served(cbrowse, folder):
     usual = row("server: a whole text of 950,000", text, whole)
     row("one part at its end", text, parts(1), usual)
     row("2,000 parts at its end", text, parts(2_000), usual)
+    row("2,000 parts at both ends in turn", text, parts(2_000, at_both_ends), usual)
+    row("2,000 parts anywhere", text, parts(2_000, anywhere), usual)
     for profile in (), ("--wide",):
         named = " ".join(("server: opened, folded", *profile))
         usual = row(named, lines(code(), 990_000), opened, profile=profile)
