@@ -236,7 +236,7 @@ class Editing:
             tells = []
             if "id" in step.message:
                 tells.append(error_to(step.message["id"]))
-                for file in ("b.h", "disk.h"):
+                for file in ("a.c", "b.h", "disk.h", "new.c"):
                     tell = told_by("showMessage", 2, file + ": ")
                     found[0, out + tell + whole[len(out) :]] = f"{file} before reply {number}"
             if is_event:
