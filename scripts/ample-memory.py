@@ -166,7 +166,8 @@ class Checks:
         given += b":to long k\n1k\n" + b":undo\n" * 7
         want = [DONE, DONE, rows([row]), DONE, DONE, rows([row.replace(b" g 1", b" <unknown> 1")])]
         want += [DONE, DONE, rows([row.replace(b" g 1 int g", b" k 1 long k")]), *[DONE] * 7]
-        self.expect("20 million bytes", self.run(["line", *WIDEST], given), (0, session(*want), b""))
+        got = self.run(["line", *WIDEST], given)
+        self.expect("20 million bytes", got, (0, session(*want), b""))
         self.write("f.c", b"int f(void) {\n}\n")
         self.expect("a long name", self.run(["tags", "-f", LONG, "f.c"]), (0, b"", b""))
         want = b"f\tf.c\t/^int f(void) {$/\n"
@@ -216,6 +217,7 @@ class Checks:
         item["selectionRange"] = line_range(first, 4, 5)
         large = f"{root}/large.c"
         body = "/*" + "x" * BODY + "*/\nint large(void) {\n}\n"
+        beside = {**opened, "uri": large, "text": body}
         changed = {"textDocument": {"uri": uri, "version": 2}, "contentChanges": [note]}
         messages = (
             ("initialize", 1, {"rootUri": root, "capabilities": {}}),
@@ -235,7 +237,7 @@ class Checks:
             ("callHierarchy/incomingCalls", 12, {"item": item}),
             ("callHierarchy/outgoingCalls", 13, {"item": item}),
             ("workspace/symbol", 14, {"query": "u"}),
-            ("textDocument/didOpen", None, {"textDocument": {**opened, "uri": large, "text": body}}),
+            ("textDocument/didOpen", None, {"textDocument": beside}),
             ("textDocument/documentSymbol", 15, {"textDocument": {"uri": large}}),
             ("shutdown", 16, None),
             ("exit", None, None),

@@ -1,3 +1,4 @@
+mod Buffers
 pub mod Editors
 pub mod Narrowing
 mod Process

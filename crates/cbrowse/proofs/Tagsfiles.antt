@@ -6,7 +6,8 @@ use Rattle.std.specs.Io.KnownBytes.{Appends}
 use Rattle.cb_tags.specs.Writers.{Writer}
 use Rattle.cb_tags.specs.Writing.{AppendsPrefix}
 use Rattle.cb_words.specs.declared.job.Job.{Job}
-use Rattle.cbrowse.specs.Files.{Disk, Does, Sight, Step, creates, disk_over, opens, removes, renames}
+use Rattle.cbrowse.specs.Files.{Disk, Does, Sight, Step, closes, creates, disk_over, opens}
+use Rattle.cbrowse.specs.Files.{removes, renames}
 use Rattle.cbrowse.specs.Messages.{files_of, force_of, tagsfile_of}
 use Rattle.cb_session.specs.States.{State}
 use Rattle.cb_tags.specs.Readers.{Reader}
@@ -46,39 +47,45 @@ from_fresh text held old new Unlisted same w = absurd w
 
 -- one is begun, written and settled
 pub settled : {D : Type 0} (finds : D → Looked → Type 0) (shows : D → Sight → Type 0)
-    (does : D → Step → D → Type 0) (old middle new : D) (job : Job) (text : List ℕ)
+    (does : D → Step → D → Type 0) (old middle later new : D) (job : Job) (text : List ℕ)
     (draft : Option (List ℕ)) (held : Option (List ℕ)) (file : Writer) (end end' : Finish)
     → Begins (shows old) (λ steps. Does does old steps middle) (tagsfile_of job) (files_of job)
     (force_of job) draft
-    → WritesFile text (fresh held) file end
-    → Settles (λ steps. Does does middle steps new) (tagsfile_of job) draft end end'
+    → WritesFile text (fresh held) file end → Does does middle (closes file.bytes ∷ []) later
+    → Settles (λ steps. Does does later steps new) (tagsfile_of job) draft end end'
     → MakesFile (disk_over finds shows does old new) job text end'
-settled {D} finds shows does old middle new job text None held file end end' begins writes settles =
+settled {D} finds shows does old middle later new job text None held file end end' begins writes
+    closed settles =
     subst (MakesFile (disk_over finds shows does old new) job text) (sym settles.0) (go end writes)
   where
     name : List ℕ
     name = tagsfile_of job
 
-    opened : Does does old (opens name ∷ []) new
-    opened = step_on does old middle new (opens name) [] begins.1 settles.1
+    opened : Does does old (opens name ∷ closes file.bytes ∷ []) new
+    opened =
+        step_on does old middle new (opens name) (closes file.bytes ∷ []) begins.1
+        (step_on does middle later new (closes file.bytes) [] closed settles.1)
 
     go : (e : Finish) → WritesFile text (fresh held) file e
         → MakesFile (disk_over finds shows does old new) job text e
-    go (Ran ended) w = inr (w.0, (None, begins.0, opened, (held, file, w.1)))
-    go Unwritable w = inr (None, begins.0, (opened, (held, file, w)))
+    go (Ran ended) w = inr (w.0, (None, begins.0, (held, file, w.1, opened)))
+    go Unwritable w = inr (None, begins.0, (held, file, w, opened))
     go (Served how) w = absurd w
     go (Unreadable place) w = absurd w
     go Unlisted w = absurd w
-settled {D} finds shows does old middle new job text (Some draft) held file end end' begins writes
-    settles = go settles
+settled {D} finds shows does old middle later new job text (Some draft) held file end end' begins
+    writes closed settles = go settles
   where
     name : List ℕ
     name = tagsfile_of job
 
-    on : (steps : List Step) → Does does middle steps new → Does does old (creates draft ∷ steps) new
-    on steps rest = step_on does old middle new (creates draft) steps begins.1 rest
+    on : (steps : List Step) → Does does later steps new
+        → Does does old (creates draft ∷ closes file.bytes ∷ steps) new
+    on steps rest =
+        step_on does old middle new (creates draft) (closes file.bytes ∷ steps) begins.1
+        (step_on does middle later new (closes file.bytes) steps closed rest)
 
-    go : Settles (λ steps. Does does middle steps new) name (Some draft) end end'
+    go : Settles (λ steps. Does does later steps new) name (Some draft) end end'
         → MakesFile (disk_over finds shows does old new) job text end'
     go (inl (whole, is, took)) =
         subst (MakesFile (disk_over finds shows does old new) job text) (sym is)
@@ -87,16 +94,20 @@ settled {D} finds shows does old middle new job text (Some draft) held file end 
           (
             Some draft,
             begins.0,
-            on (renames draft name ∷ []) took,
-            (held, file, (subst (WritesFile text (fresh held) file) whole writes).1),
+            (
+              held,
+              file,
+              (subst (WritesFile text (fresh held) file) whole writes).1,
+              on (renames draft name ∷ []) took,
+            ),
           ),
         ))
     go (inr (is, inl gone)) =
         subst (MakesFile (disk_over finds shows does old new) job text) (sym is)
-        (inr (Some draft, begins.0, inl (on (removes draft ∷ []) gone)))
+        (inr (Some draft, begins.0, (file.bytes, inl (on (removes draft ∷ []) gone))))
     go (inr (is, inr stays)) =
         subst (MakesFile (disk_over finds shows does old new) job text) (sym is)
-        (inr (Some draft, begins.0, inr (on [] stays)))
+        (inr (Some draft, begins.0, (file.bytes, inr (on [] stays))))
 
 -- the same, as a job asks for it
 pub into_file : (disk : Disk) (s : State) (job : Job) (feed feed' : Reader) (out : Writer)

@@ -1,5 +1,6 @@
 -- What a run of the program leaves: the promise of `execute`.
-use Rattle.std.specs.Prelude.{◌≡◌, ◌⊎◌, ℕ, false, List, [], Result, Ok, Err, String, map, string_bytes}
+use Rattle.std.specs.Prelude.{◌≡◌, ◌⊎◌, ℕ, false, List, [], Option, Result, Ok, Err, String, map}
+use Rattle.std.specs.Prelude.{string_bytes}
 use Rattle.std.specs.Global.{Global}
 use Rattle.std.specs.Vec.Iter.{into_iter_items}
 use Rattle.std.specs.declared.io.Error.{Error}
@@ -64,11 +65,13 @@ EndsProcess disk (Err error) status feed feed' out out' errors errors' =
     (usage : Usage) × IsWordFault usage
     × EndsNone disk usage status feed feed' out out' errors errors'
 
--- a process has run over an input that is open and an output that has not failed; or memory was
--- refused for the buffers of these, and nothing is done
-abbrev pub EndsRun : Disk → Result (IntoIter (String Global) Global) Error → ℕ → Writer → Writer
-    → Type 0
-EndsRun disk words status errors errors' =
-    ((feed feed' : Reader) × (out out' : Writer) × (feed.stage ≡ Open) × (out.failed ≡ false)
+-- a process has run over an input that is open, of which this is left, and an output that has not
+-- failed, which has this; or memory was refused for the buffers of these, and nothing is done
+abbrev pub EndsRun : Disk → Result (IntoIter (String Global) Global) Error
+    → (input output : Option (List ℕ)) → ℕ → Writer → Writer → Type 0
+EndsRun disk words input output status errors errors' =
+    ((feed feed' : Reader) × (out out' : Writer)
+    × ((feed.stage ≡ Open) × (feed.bytes ≡ input))
+    × ((out.failed ≡ false) × (out.bytes ≡ output))
     × EndsProcess disk words status feed feed' out out' errors errors')
     ⊎ (disk.done [] × (status ≡ usage_status Memory) × Says errors errors' (usage_said Memory))

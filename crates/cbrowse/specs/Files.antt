@@ -12,10 +12,12 @@ pub data Sight : Type 0 where
   leads : (name path : List ℕ) → Sight
 
 -- what is done: a file is made where nothing stood; one is opened where it stands, and emptied if it
--- is a regular one; one takes another name, in the place of what has it; one is taken away
+-- is a regular one; what was made or opened is closed, and holds this; one takes another name, in
+-- the place of what has it; one is taken away
 pub data Step : Type 0 where
   creates : (name : List ℕ) → Step
   opens : (name : List ℕ) → Step
+  closes : (held : Option (List ℕ)) → Step
   renames : (from to : List ℕ) → Step
   removes : (name : List ℕ) → Step
 

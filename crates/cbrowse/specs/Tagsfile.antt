@@ -6,8 +6,8 @@ use Rattle.cb_session.specs.declared.input.Ended.TheVariants.{Done, Fault}
 use Rattle.cb_session.specs.declared.input.Fault.TheVariants.{Write, Memory}
 use Rattle.cb_tags.specs.Writers.{Writer}
 use Rattle.cb_words.specs.declared.job.Job.{Job}
-use Rattle.cbrowse.specs.Files.{Disk, Sight, Step, begins, creates, leads, opens, removes, renames}
-use Rattle.cbrowse.specs.Files.{stands}
+use Rattle.cbrowse.specs.Files.{Disk, Sight, Step, begins, closes, creates, leads, opens, removes}
+use Rattle.cbrowse.specs.Files.{renames, stands}
 use Rattle.cbrowse.specs.Messages.{files_of, force_of, tagsfile_of}
 use Rattle.cbrowse.specs.Writes.{WritesText, fresh}
 use Rattle.cbrowse.specs.declared.execute.finish.Finish.{Finish}
@@ -137,23 +137,26 @@ Settles done name (Some draft) end end' =
 
 -- ---- what a job leaves
 
--- the whole text is under the name: in a new file, which takes the place of the old one, or in the
--- one that stands there
+-- the whole text is under the name: what was written when the file was closed, in a new one, which
+-- takes the place of the old one, or in the one that stands there
 abbrev pub Replaces : Disk → Job → List ℕ → Type 0
 Replaces disk job text =
     (draft : Option (List ℕ))
     × MayBegin disk.shows (tagsfile_of job) (files_of job) (force_of job) draft
-    × disk.done (first_step (tagsfile_of job) draft ∷ last_steps (tagsfile_of job) draft)
-    × ((held : Option (List ℕ)) × (file : Writer) × WritesText text (fresh held) file Done)
+    × ((held : Option (List ℕ)) × (file : Writer) × WritesText text (fresh held) file Done
+    × disk.done (first_step (tagsfile_of job) draft
+    ∷ (closes file.bytes ∷ last_steps (tagsfile_of job) draft)))
 
 -- a file that cannot be written: the old one stands, since a draft was dropped; or a prefix of the
 -- text is in what was written in place
 abbrev pub Spoils : Disk → Job → List ℕ → (draft : Option (List ℕ)) → Type 0
 Spoils disk job text (Some draft) =
-    disk.done (creates draft ∷ removes draft ∷ []) ⊎ disk.done (creates draft ∷ [])
+    (held : Option (List ℕ))
+    × (disk.done (creates draft ∷ closes held ∷ removes draft ∷ [])
+    ⊎ disk.done (creates draft ∷ closes held ∷ []))
 Spoils disk job text None =
-    disk.done (opens (tagsfile_of job) ∷ [])
-    × ((held : Option (List ℕ)) × (file : Writer) × WritesText text (fresh held) file (Fault Write))
+    (held : Option (List ℕ)) × (file : Writer) × WritesText text (fresh held) file (Fault Write)
+    × disk.done (opens (tagsfile_of job) ∷ closes file.bytes ∷ [])
 
 -- a job leaves a tags file with this text; or nothing was done, since memory was refused or the file
 -- cannot be written; or it was begun, and cannot be written

@@ -1,5 +1,5 @@
 //! The program behind its entry: words in, a job done, an exit status out.
-ghost use Rattle.std.specs.Prelude.{◌≡◌, ◌≢◌, ◌≤◌, ◌⊎◌, [], true, false, IfOk, map};
+ghost use Rattle.std.specs.Prelude.{◌≡◌, ◌≢◌, ◌≤◌, ◌⊎◌, ◌∷◌, [], true, false, IfOk, map};
 ghost use Rattle.std.specs.Prelude.{string_bytes};
 ghost use Rattle.std.specs.Vec.Iter.{into_iter_items};
 ghost use Rattle.std.specs.List.{flat_map};
@@ -8,7 +8,7 @@ ghost use Rattle.cb_desk.specs.Answer.{answer};
 ghost use Rattle.cb_session.specs.Output.{row_line};
 ghost use Rattle.cb_tags.specs.Writers.{Writer};
 ghost use Rattle.cbrowse.specs.Endings.{EndsJob, EndsProcess, EndsRun, EndsUsage, TakesWords};
-ghost use Rattle.cbrowse.specs.Files.{disk_over};
+ghost use Rattle.cbrowse.specs.Files.{Does, closes, disk_over};
 ghost use Rattle.cbrowse.specs.Lists.{WorksListed};
 ghost use Rattle.cbrowse.specs.Messages.{bounds_of, most_line_bytes, tagsfile_of};
 ghost use Rattle.cbrowse.specs.Program.{IsReady, RunsServer, output_format, output_text};
@@ -261,9 +261,9 @@ fn run_job_over<D: Disk, I: BufRead, W: Write>(
 }
 
 /// Does a job of tags into a file that was begun, which is closed then.
-fn run_job_into<D: Disk, I: BufRead, W: Write + Drop>(
+fn run_job_into<D: Disk + Storage, I: BufRead, W: Write + Drop>(
     alloc: Global,
-    disk: &D,
+    disk: &mut D,
     job: &Job,
     session: Session,
     feed: &mut Feed<I>,
@@ -273,11 +273,14 @@ fn run_job_into<D: Disk, I: BufRead, W: Write + Drop>(
     requires ready { IsReady job.now }
     requires bounds { session.timeline.present.bounds ≡ bounds_of job.now }
     ensures written { (file : Writer) × WritesFile (file_text job.now session.timeline.present)
-        (fresh (W.contents writer)) file result }
+        (fresh (W.contents writer)) file result
+        × Does D.does disk.old (closes file.bytes ∷ []) disk.new }
     ensures feed { feed.new ≡ feed.old }
 {
     let mut out = Sink::new(writer);
-    run_job_over(alloc, disk, job, session, feed, &mut out)
+    let end = run_job_over(alloc, &*disk, job, session, feed, &mut out);
+    disk.close(out);
+    end
 }
 
 /// Does a job from a session in which its files are loaded. Nothing is done to a file but here.
@@ -405,8 +408,8 @@ pub fn run<D: Disk + Storage, I: Read + Drop, O: Write + Drop, E: Write>(
     output: O,
     errors: &mut Sink<E>,
 ) -> u8
-    ensures { EndsRun (disk_over D.finds D.shows D.does disk.old disk.new) words result
-        errors.old errors.new }
+    ensures { EndsRun (disk_over D.finds D.shows D.does disk.old disk.new) words
+        (I.remaining input) (O.contents output) result errors.old errors.new }
 {
     let Ok(reader) = BufReader::new(alloc, input) else {
         return refuse(errors, &Usage::Memory);

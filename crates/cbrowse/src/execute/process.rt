@@ -4,6 +4,7 @@ ghost use Rattle.std.specs.Prelude.{◌≡◌, ◌<◌, ◌^◌, IfOk, IfSome, t
 
 use crate::execute::storage::{Seen, Storage};
 use cb_lsp::{Disk, Found};
+use cb_tags::Sink;
 use std::alloc::Global;
 use std::fs::{self, Metadata, OpenFile, OpenOptions, Permissions};
 use std::io::{self, ErrorKind, Read, Write};
@@ -210,6 +211,10 @@ impl<R: Files + AllocGlobal> Storage for Process<'_, R> {
             .create(true)
             .open(self.rt, path)?;
         emptied(file, seen)
+    }
+
+    fn close<W: Write + Drop>(&mut self, out: Sink<W>) {
+        drop(out);
     }
 
     fn rename(&mut self, from: &str, to: &str) -> io::Result<()> {

@@ -1,5 +1,6 @@
 //! What the program asks of the files of a process, beside what its server asks.
 
+use cb_tags::Sink;
 use std::alloc::Global;
 use std::io::{self, Write};
 
@@ -23,8 +24,8 @@ pub(crate) struct Seen {
 /// does nothing.
 pub(crate) trait Storage {
     ghost use Rattle.std.specs.Prelude.{◌≡◌, ◌<◌, ◌^◌, IfOk, MatchResult, string_bytes};
-    ghost use Rattle.cbrowse.specs.Files.{Sight, Step, begins, creates, leads, opens, removes};
-    ghost use Rattle.cbrowse.specs.Files.{renames, stands};
+    ghost use Rattle.cbrowse.specs.Files.{Sight, Step, begins, closes, creates, leads, opens};
+    ghost use Rattle.cbrowse.specs.Files.{removes, renames, stands};
 
     /// A file that is open to be written.
     type File: Write + Drop;
@@ -62,6 +63,10 @@ pub(crate) trait Storage {
     fn open(&mut self, path: &str, seen: Seen) -> io::Result<Self::File>
         ensures { MatchResult result (λ _. does self.old (opens path.now) self.new)
             (λ _. self.new ≡ self.old) };
+
+    /// Closes what was made or opened, which is behind this sink.
+    fn close<W: Write + Drop>(&mut self, out: Sink<W>)
+        ensures { does self.old (closes out.bytes) self.new };
 
     /// Gives a file another name, in the place of what has it.
     fn rename(&mut self, from: &str, to: &str) -> io::Result<()>
