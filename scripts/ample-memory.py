@@ -168,6 +168,10 @@ class Checks:
         want += [DONE, DONE, rows([row.replace(b" g 1 int g", b" k 1 long k")]), *[DONE] * 7]
         got = self.run(["line", *WIDEST], given)
         self.expect("20 million bytes", got, (0, session(*want), b""))
+        self.write("g.c", text + b"int h(void) {\n}\n")
+        row = b"g.c h %d int h(void) {\n" % (LARGE // 6 + 3)
+        got = self.run(["find", *WIDEST, "1", "h", "g.c"])
+        self.expect("behind 20 million bytes", got, (0, row, b""))
         self.write("f.c", b"int f(void) {\n}\n")
         self.expect("a long name", self.run(["tags", "-f", LONG, "f.c"]), (0, b"", b""))
         want = b"f\tf.c\t/^int f(void) {$/\n"

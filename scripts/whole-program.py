@@ -244,6 +244,12 @@ def wrong(words: list[str], said: bytes) -> Row:
     return Row(words, b"", b"error: " + said, 2, begins=True)
 
 
+def no_bound(option: str, value: str, most: int) -> bytes:
+    """Why a value is no bound."""
+    why = f"{value} is not in 1..={most}" if value.isdigit() else "invalid digit found in string"
+    return f"invalid value '{value}' for '{option} <N>': {why}\n".encode()
+
+
 def help_of(words: list[str], said: bytes) -> Row:
     return Row(words, b"", said, 0)
 
@@ -251,6 +257,8 @@ def help_of(words: list[str], said: bytes) -> Row:
 BIG_ROW = b"big.c <unknown> 1 \n"
 NO_FIELD, NO_PATTERN = b"field not in this profile", b"no pattern"
 LACKS = b"the following required arguments were not provided:\n"
+TAKEN = b"invalid value '-' for '--files-from <LIST>': standard input has the "
+NO_ROOT = b"invalid value for '--root <DIR>': it must begin with '/'\n"
 ROWS = [
     # sessions
     line(b"q\n", b">> "),
@@ -369,7 +377,7 @@ ROWS = [
     refused(["find", "7", "x", "n.c", "m.c", "--max-file-bytes", "16"], b"m.c: too large"),
     refused(["tags", "--max-files", "1", "n.c", "m.c"], b"m.c: too many files"),
     *(
-        wrong([*words, option, value, "a.c"], b"invalid value '%s' for " % value.encode())
+        wrong([*words, option, value, "a.c"], no_bound(option, value, most))
         for words in (["line"], ["find", "1", "f"], ["tags"])
         for option, most in (("--max-files", 1_048_576), ("--max-file-bytes", 268_435_456))
         for value in ("0", str(most + 1), "x", "1e3")
@@ -412,11 +420,11 @@ ROWS = [
     refused(["tags", "--files-from", "latin.list"], b"latin.list: cannot be read"),
     refused(["tags", "--files-from", ""], b": cannot be read"),
     refused(["line", "--files-from", "./-"], b"./-: cannot be read"),
-    wrong(["line", "--files-from", "-"], b"invalid value '-' for '--files-from <LIST>'"),
-    wrong(["line", "a.c", "--files-from=-"], b"invalid value '-' for '--files-from <LIST>'"),
-    wrong(["lsp", "a.c", "--files-from", "-"], b"invalid value '-' for '--files-from <LIST>'"),
-    wrong(["lsp", "--root", "w", "a.c"], b"invalid value for '--root <DIR>'"),
-    wrong(["lsp", "--root", ""], b"invalid value for '--root <DIR>'"),
+    wrong(["line", "--files-from", "-"], TAKEN + b"commands\n"),
+    wrong(["line", "a.c", "--files-from=-"], TAKEN + b"commands\n"),
+    wrong(["lsp", "a.c", "--files-from", "-"], TAKEN + b"messages\n"),
+    wrong(["lsp", "--root", "w", "a.c"], NO_ROOT),
+    wrong(["lsp", "--root", ""], NO_ROOT),
     wrong(["lsp", "--prototypes", "a.c"], LACKS + b"  --wide\n"),
     refused(["find", "5", "f", "--files-from", "none"], NO_FIELD, 2),
     refused(["find", "1", "", "--files-from", "none"], NO_PATTERN, 2),
