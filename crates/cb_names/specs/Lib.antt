@@ -15,6 +15,7 @@ pub mod Renaming
 pub mod Scoped
 pub mod Scopes
 pub mod Shapes
+pub mod SpaceAt
 pub mod Spaces
 pub mod Statements
 pub mod Tables

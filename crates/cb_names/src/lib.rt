@@ -2,8 +2,9 @@
 //! branches of `#if`.
 //!
 //! [`local_at`] finds what a name means that is known in its function alone: a label, a local
-//! variable or a parameter. [`laws`] say what stays where a local or a label has a new word. The
-//! crate stands on `cb_scan` (tokens of the code, functions) and knows one text at a time.
+//! variable or a parameter. [`space_at`] tells members, tags and other names apart. [`laws`] say what
+//! stays where a local or a label has a new word. The crate stands on `cb_scan` (tokens of the code,
+//! functions) and knows one text at a time.
 #![tactic(auto)]
 
 // The tokens of a function: what the word of each is, which are of attributes, which brackets pair,
@@ -29,6 +30,7 @@ mod labels;
 pub mod laws;
 mod local;
 mod meaning;
+mod space;
 mod spaces;
 
 // What macros make of names, and the names of a function that may be macros.
@@ -39,3 +41,4 @@ pub use local::{Access, Local, LocalUse};
 pub use macros::{Macro, MacroName, macro_at, takes_member};
 pub use meaning::local_at;
 pub use names::{Arguments, FunctionNames, function_names};
+pub use space::{Space, space_at};

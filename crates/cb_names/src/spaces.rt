@@ -82,7 +82,7 @@ pub(crate) fn begins_accessor(items: &[Item], index: usize) -> bool
 
 /// Whether a `.` or `->` is directly before a token.
 #[tactic(auto, unfolding(crate::specs::Spaces::follows_accessor))]
-fn follows_accessor(items: &[Item], index: u32) -> bool
+pub(crate) fn follows_accessor(items: &[Item], index: u32) -> bool
     ensures { result ≡ follows_accessor items.now index }
 {
     index > 0 && (is_dot(items, index - 1) || is_arrow(items, index - 1))
@@ -135,7 +135,7 @@ fn opens_body(items: &[Item], index: u32) -> bool
 }
 
 /// Whether a name is a tag.
-fn is_tag(items: &[Item], index: u32) -> bool
+pub(crate) fn is_tag(items: &[Item], index: u32) -> bool
     requires few { length items.now < 2 ^ 32 }
     requires within { index < length items.now }
     ensures { result ≡ is_tag items.now index }

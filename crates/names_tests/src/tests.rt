@@ -1,3 +1,4 @@
 mod functions;
 mod labels;
 mod locals;
+mod spaces;
