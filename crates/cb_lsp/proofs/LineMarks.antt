@@ -1,26 +1,126 @@
--- Lines behind a mark, and the marks of other lines.
-use Rattle.std.proofs.Common.{◌≡◌, ◌≢◌, ◌∙◌, ◌+◌, ◌-◌, ◌<◌, ◌≤◌, ◌++◌, ℕ, zero, suc, List, [], ◌∷◌, Some}
-use Rattle.std.proofs.Common.{length, length-append, length-drop, length-take-le, take, drop, map}
-use Rattle.std.proofs.Common.{take-append-drop, get_or-take, get_or-drop, refl, sym, ap, subst}
-use Rattle.std.proofs.Common.{arith, inl, inr}
-use Rattle.std.specs.Prelude.{Err, Ok, OnErr, OnOk, Result, slice_index}
+-- Lines behind a mark, and other marks.
+use Rattle.std.proofs.Common.{◌≡◌, ◌∙◌, ◌+◌, ◌-◌, ◌<◌, ◌≤◌, ◌++◌, ℕ, zero, suc, List, [], ◌∷◌}
+use Rattle.std.proofs.Common.{length, length-append, length-drop, length-take-le, take, drop}
+use Rattle.std.proofs.Common.{cond, map, take-append-drop, refl, sym, ap, subst, arith, inl, inr, true}
+use Rattle.std.proofs.Common.{false, ⊎_elim, zero-add}
+use Rattle.std.specs.Prelude.{Err, Ok, OnErr, OnOk, Result, ◌==◌}
 use Rattle.std.specs.List.{slice_index_or, sum_by}
-use Rattle.std.proofs.Math.Seq.{take-add, take-append-add}
-use Rattle.std.proofs.lemmas.Bool.{eq-eqb, eqb-true}
-use Rattle.std.proofs.lemmas.List.{get_or-append-add, length-map, map-append, take-append-le}
-use Rattle.std.proofs.lemmas.List.Sums.{sum_by-append}
-use Rattle.memchr.specs.Find.{IsFirstByte, IsLastByte, is_byte}
-use Rattle.bstr.specs.Text.{lines_of, without_terminator}
-use Rattle.bstr.proofs.lemmas.LineLemmas.{lines-append, lines-back_some, lines-nil, lines-one}
-use Rattle.cb_scan.proofs.LineTable.{lines-few}
-use Rattle.cb_wire.specs.Positions.{line_start, shown_line}
-use Rattle.cb_wire.proofs.Lines.{text-length}
+use Rattle.std.proofs.Math.Seq.{take-add}
+use Rattle.std.proofs.lemmas.Bool.{cond-true, cond-false, cases_Bool}
+use Rattle.std.proofs.lemmas.List.{take-append-le}
+use Rattle.std.proofs.lemmas.List.Sums.{sum_by-append, sum_by-take-drop}
+use Rattle.bstr.specs.Text.{lines_of, line_len, without_terminator}
+use Rattle.bstr.proofs.lemmas.LineLemmas.{lines-nil}
+use Rattle.cb_wire.specs.Positions.{line_feeds, line_start, shown_line}
+use Rattle.cb_wire.proofs.Positions.{feeds-no, feeds-yes, shown-suc, start-suc}
 use Rattle.cb_lsp.specs.Changes.{replaced}
-use Rattle.cb_lsp.specs.steps.LineMarks.{EndsLine, IsLineMark}
+use Rattle.cb_lsp.specs.steps.LineMarks.{IsBefore, IsLineMark}
 
--- the first line
+-- the start of a text
 pub first-mark : (text : List ℕ) → IsLineMark text 0 0
-first-mark text = record { within = omega arith; ends = inl refl; number = sym (ap length lines-nil) }
+first-mark text = record { within = omega arith; counted = refl }
+
+-- ---- lines with a byte more before them
+
+start-nil : (n : ℕ) → line_start [] n ≡ 0
+start-nil zero = refl
+start-nil (suc n) = ap (λ ls. sum_by length (take (suc n) ls)) lines-nil
+
+shown-nil : (n : ℕ) → shown_line [] n ≡ []
+shown-nil n = ap (λ ls. slice_index_or (map without_terminator ls) n []) lines-nil
+
+-- a line feed begins the next line
+module _ (b : ℕ) (t : List ℕ) (n : ℕ) (is : (b == 10) ≡ true) where
+  one : line_len (b ∷ t) ≡ 1
+  unfolding line_len
+  one = cond-true (b == 10) 1 (suc (line_len t)) is
+
+  start-feed : line_start (b ∷ t) (suc n) ≡ suc (line_start t n)
+  start-feed = start-suc (b ∷ t) (omega arith) n ∙ ap (λ k. k + line_start (drop k (b ∷ t)) n) one
+      ∙ omega arith
+
+  shown-feed : shown_line (b ∷ t) (suc n) ≡ shown_line t n
+  shown-feed = shown-suc (b ∷ t) (omega arith) n ∙ ap (λ k. shown_line (drop k (b ∷ t)) n) one
+
+-- another byte begins none
+module _ (b : ℕ) (no : (b == 10) ≡ false) where
+  longer : (t : List ℕ) → line_len (b ∷ t) ≡ suc (line_len t)
+  unfolding line_len
+  longer t = cond-false (b == 10) 1 (suc (line_len t)) no
+
+  start-more : (t : List ℕ) (n : ℕ) → line_start (b ∷ t) (suc n) ≡ suc (line_start t (suc n))
+  unfolding line_len
+  start-more [] n =
+      let all : line_start (b ∷ []) (suc n) ≡ 1 + line_start [] n =
+      start-suc (b ∷ []) (omega arith) n
+      ∙ ap (λ k. k + line_start (drop k (b ∷ [])) n) (longer []) in
+      omega (arith, all, start-nil n, start-nil (suc n))
+  start-more (d ∷ ds) n =
+      let t = d ∷ ds in
+      let all : line_start (b ∷ t) (suc n) ≡ suc (line_len t) + line_start (drop (line_len t) t) n =
+      start-suc (b ∷ t) (omega arith) n ∙ ap (λ k. k + line_start (drop k (b ∷ t)) n) (longer t) in
+      omega (arith, all, start-suc t (omega arith) n)
+
+  shown-more : (t : List ℕ) (n : ℕ) → shown_line (b ∷ t) (suc n) ≡ shown_line t (suc n)
+  unfolding line_len
+  shown-more [] n =
+      shown-suc (b ∷ []) (omega arith) n ∙ ap (λ k. shown_line (drop k (b ∷ [])) n) (longer [])
+      ∙ shown-nil n ∙ sym (shown-nil (suc n))
+  shown-more (d ∷ ds) n =
+      shown-suc (b ∷ d ∷ ds) (omega arith) n
+      ∙ ap (λ k. shown_line (drop k (b ∷ d ∷ ds)) n) (longer (d ∷ ds))
+      ∙ sym (shown-suc (d ∷ ds) (omega arith) n)
+
+-- ---- lines behind some bytes
+
+start-behind : (xs ys : List ℕ) (n : ℕ)
+    → line_start (xs ++ ys) (line_feeds xs + suc n) ≡ length xs + line_start ys (suc n)
+start-behind [] ys n =
+    ap (line_start ys) (zero-add (suc n)) ∙ sym (zero-add (line_start ys (suc n)))
+start-behind (b ∷ bs) ys n =
+    let rest = start-behind bs ys n in
+    ⊎_elim
+    (λ is.
+    let feeds : line_feeds (b ∷ bs) + suc n ≡ suc (line_feeds bs + suc n) =
+    omega (arith, feeds-yes b bs is) in
+    omega (
+      arith,
+      ap (line_start (b ∷ bs ++ ys)) feeds
+          ∙ start-feed b (bs ++ ys) (line_feeds bs + suc n) is,
+      rest,
+    ))
+    (λ no.
+    let feeds : line_feeds (b ∷ bs) + suc n ≡ suc (line_feeds bs + n) =
+    omega (arith, feeds-no b bs no) in
+    let on : suc (line_feeds bs + n) ≡ line_feeds bs + suc n = omega arith in
+    omega (
+      arith,
+      ap (line_start (b ∷ bs ++ ys)) feeds
+          ∙ start-more b no (bs ++ ys) (line_feeds bs + n)
+          ∙ ap (λ m. suc (line_start (bs ++ ys) m)) on,
+      rest,
+    ))
+    (cases_Bool (b == 10))
+
+shown-behind : (xs ys : List ℕ) (n : ℕ)
+    → shown_line (xs ++ ys) (line_feeds xs + suc n) ≡ shown_line ys (suc n)
+shown-behind [] ys n = ap (shown_line ys) (zero-add (suc n))
+shown-behind (b ∷ bs) ys n =
+    ⊎_elim
+    (λ is.
+    let feeds : line_feeds (b ∷ bs) + suc n ≡ suc (line_feeds bs + suc n) =
+    omega (arith, feeds-yes b bs is) in
+    ap (shown_line (b ∷ bs ++ ys)) feeds ∙ shown-feed b (bs ++ ys) (line_feeds bs + suc n) is
+    ∙ shown-behind bs ys n)
+    (λ no.
+    let feeds : line_feeds (b ∷ bs) + suc n ≡ suc (line_feeds bs + n) =
+    omega (arith, feeds-no b bs no) in
+    let on : suc (line_feeds bs + n) ≡ line_feeds bs + suc n = omega arith in
+    ap (shown_line (b ∷ bs ++ ys)) feeds ∙ shown-more b no (bs ++ ys) (line_feeds bs + n)
+    ∙ ap (shown_line (bs ++ ys)) on ∙ shown-behind bs ys n)
+    (cases_Bool (b == 10))
+
+-- ---- marks
 
 -- a front of a front
 take-take : (n m : ℕ) (xs : List ℕ) → n ≤ m → m ≤ length xs → take n (take m xs) ≡ take n xs
@@ -28,143 +128,73 @@ take-take n m xs few within =
     sym (take-append-le n (take m xs) (drop m xs) (omega (arith, few, length-take-le m xs within)))
     ∙ ap (take n) (take-append-drop m xs)
 
-module _ (text : List ℕ) (line start : ℕ) (mark : IsLineMark text line start) where
+module _ (text : List ℕ) (place feeds : ℕ) (mark : IsLineMark text place feeds) where
   abbrev front : List ℕ
-  front = take start text
+  front = take place text
 
   abbrev rest : List ℕ
-  rest = drop start text
+  rest = drop place text
 
-  long : length front ≡ start
-  long = length-take-le start text mark.within
+  -- a line that begins behind a mark, or any from the start on
+  pub starts-from : (line : ℕ) → IsBefore place feeds line
+      → line_start text line ≡ place + line_start rest (line - feeds)
+  starts-from line (inl start) =
+      let none : feeds ≡ 0 = mark.counted ∙ ap (λ p. line_feeds (take p text)) start in
+      let same : line - feeds ≡ line = omega (arith, none) in
+      sym (ap (λ p. p + line_start (drop p text) (line - feeds)) start
+      ∙ zero-add (line_start text (line - feeds)) ∙ ap (line_start text) same)
+  starts-from line (inr before) =
+      let n = line - feeds - 1 in
+      let is : line ≡ line_feeds front + suc n = omega (arith, before, mark.counted) in
+      let left : line - feeds ≡ suc n = omega (arith, before) in
+      ap (line_start text) is ∙ ap (λ t. line_start t (line_feeds front + suc n))
+      (sym (take-append-drop place text)) ∙ start-behind front rest n
+      ∙ ap (λ k. k + line_start rest (suc n)) (length-take-le place text mark.within)
+      ∙ ap (λ k. place + line_start rest k) (sym left)
 
-  -- each line has a byte
-  pub few-lines : line ≤ start
-  few-lines = omega (arith, mark.number, lines-few front, long)
+  pub shows-from : (line : ℕ) → IsBefore place feeds line
+      → shown_line text line ≡ shown_line rest (line - feeds)
+  shows-from line (inl start) =
+      let none : feeds ≡ 0 = mark.counted ∙ ap (λ p. line_feeds (take p text)) start in
+      let same : line - feeds ≡ line = omega (arith, none) in
+      sym (ap (λ p. shown_line (drop p text) (line - feeds)) start ∙ ap (shown_line text) same)
+  shows-from line (inr before) =
+      let n = line - feeds - 1 in
+      let is : line ≡ line_feeds front + suc n = omega (arith, before, mark.counted) in
+      let left : line - feeds ≡ suc n = omega (arith, before) in
+      ap (shown_line text) is ∙ ap (λ t. shown_line t (line_feeds front + suc n))
+      (sym (take-append-drop place text)) ∙ shown-behind front rest n
+      ∙ ap (shown_line rest) (sym left)
 
-  -- ---- lines behind it
-
-  parted : lines_of text ≡ lines_of front ++ lines_of rest
-  parted = sym (ap lines_of (take-append-drop start text))
-      ∙ lines-append start front rest (omega (arith, long)) mark.ends
-
-  pub start-behind : (n : ℕ) → line_start text (line + n) ≡ start + line_start rest n
-  start-behind n =
-      ap (λ ls. sum_by length (take (line + n) ls)) parted
-      ∙ ap (λ k. sum_by length (take (k + n) (lines_of front ++ lines_of rest))) mark.number
-      ∙ ap (sum_by length) (take-append-add (lines_of front) (lines_of rest) n)
-      ∙ sum_by-append length (lines_of front) (take n (lines_of rest))
-      ∙ ap (λ k. k + line_start rest n) (text-length front ∙ long)
-
-  pub shown-behind : (n : ℕ) → shown_line text (line + n) ≡ shown_line rest n
-  shown-behind n =
-      let before = map without_terminator (lines_of front) in
-      let after = map without_terminator (lines_of rest) in
-      let same : line ≡ length before = mark.number ∙ sym (length-map (lines_of front) without_terminator) in
-      ap (λ ls. slice_index_or (map without_terminator ls) (line + n) []) parted
-      ∙ ap (λ ls. slice_index_or ls (line + n) [])
-      (map-append without_terminator (lines_of front) (lines_of rest))
-      ∙ ap (λ k. slice_index_or (before ++ after) (k + n) []) same
-      ∙ get_or-append-add before after n []
-
-  -- ---- other marks
-
-  -- there is a line before it
-  pub begins-behind : 0 < line → 0 < start
-  begins-behind some = begun start refl
-    where
-      begun : (n : ℕ) → start ≡ n → 0 < start
-      begun zero is = absurd (omega (
-        arith,
-        some,
-        mark.number,
-        ap (λ k. length (lines_of (take k text))) is,
-        ap length lines-nil,
-      ))
-      begun (suc n) is = omega (arith, is)
-
-  -- the line feed before it, but for the last byte
-  pub mark-back : (e : ℕ) → 0 < line → IsLastByte (is_byte 10) (take (start - 1) text) (Some e)
-      → IsLineMark text (line - 1) (e + 1)
-  mark-back e some is =
-      let begins = begins-behind some in
-      let fewer : length front - 1 ≡ start - 1 = omega (arith, long) in
-      let same : take (length front - 1) front ≡ take (start - 1) text =
-      ap (λ n. take n front) fewer ∙ take-take (start - 1) start text (omega arith) mark.within in
-      let is' = subst (λ l. IsLastByte (is_byte 10) l (Some e)) (sym same) is in
-      let shorter : length (take (start - 1) text) ≡ start - 1 =
-      length-take-le (start - 1) text (omega (arith, mark.within)) in
-      let high : e < start - 1 = omega (arith, is.0.high, shorter) in
-      let feed : slice_index text e ≡ 10 =
-      sym (get_or-take (start - 1) text e 0 high) ∙ eqb-true _ _ is.1 in
-      let within : e + 1 ≤ length text = omega (arith, high, mark.within) in
-      let size : length (take (e + 1) text) ≡ e + 1 = length-take-le (e + 1) text within in
-      let last : length (take (e + 1) text) - 1 ≡ e = omega (arith, size) in
-      let one = take (length front - (e + 1)) (drop (e + 1) front) in
-      let all : lines_of front ≡ lines_of (take (e + 1) text) ++ one ∷ [] =
-      lines-back_some front e (omega (arith, begins, long)) is'
-      ∙ ap (λ l. lines_of l ++ one ∷ []) (take-take (e + 1) start text (omega arith) mark.within) in
-      let count : length (lines_of front) ≡ length (lines_of (take (e + 1) text)) + 1 =
-      ap length all ∙ length-append (lines_of (take (e + 1) text)) (one ∷ []) in
-      record {
-        within = within;
-        ends = inr (ap (slice_index (take (e + 1) text)) last
-            ∙ get_or-take (e + 1) text e 0 (omega arith) ∙ feed);
-        number = omega (arith, mark.number, count);
-      }
-
-  -- the first line feed behind it
-  pub mark-next : (e : ℕ) → IsFirstByte (is_byte 10) rest (Some e)
-      → IsLineMark text (line + 1) (start + e + 1)
-  mark-next e is =
-      let one = take (e + 1) rest in
-      let left : length rest ≡ length text - start = length-drop start text in
-      let high : e < length rest = is.0.high in
-      let feed : slice_index text (start + e) ≡ 10 =
-      sym (get_or-drop start text e 0) ∙ eqb-true _ _ is.1 in
-      let within : start + e + 1 ≤ length text = omega (arith, high, left, mark.within) in
-      let size : length (take (start + e + 1) text) ≡ start + e + 1 =
-      length-take-le (start + e + 1) text within in
-      let last : length (take (start + e + 1) text) - 1 ≡ start + e = omega (arith, size) in
-      let together : start + e + 1 ≡ start + (e + 1) = omega arith in
-      let short : length one ≡ e + 1 = length-take-le (e + 1) rest (omega (arith, high)) in
-      let none : (k : ℕ) → k + 1 < length one → slice_index one k ≢ 10 = λ k few feeds.
-      is.0.before k (omega arith) (omega (arith, few, short))
-      (eq-eqb (slice_index rest k) 10 (sym (get_or-take (e + 1) rest k 0
-      (omega (arith, few, short))) ∙ feeds)) in
-      let all : lines_of (take (start + e + 1) text) ≡ lines_of front ++ one ∷ [] =
-      ap (λ n. lines_of (take n text)) together ∙ ap lines_of (take-add start (e + 1) text)
-      ∙ lines-append start front one (omega (arith, long)) mark.ends
-      ∙ ap (λ ls. lines_of front ++ ls) (lines-one one (omega (arith, short)) none) in
-      let count : length (lines_of (take (start + e + 1) text)) ≡ length (lines_of front) + 1 =
-      ap length all ∙ length-append (lines_of front) (one ∷ []) in
-      record {
-        within = within;
-        ends = inr (ap (slice_index (take (start + e + 1) text)) last
-            ∙ get_or-take (start + e + 1) text (start + e) 0 (omega arith) ∙ feed);
-        number = omega (arith, mark.number, count);
-      }
+  -- so many bytes on
+  pub mark-on : (n : ℕ) → n ≤ length rest
+      → IsLineMark text (place + n) (feeds + line_feeds (take n rest))
+  mark-on n few = record {
+    within = omega (arith, few, length-drop place text, mark.within);
+    counted = ap (λ f. f + line_feeds (take n rest)) mark.counted
+        ∙ sym (ap line_feeds (take-add place n text)
+            ∙ sum_by-append (λ c. cond (c == 10) 1 0) front (take n rest));
+  }
 
   -- what stands behind it may change
-  pub mark-kept : (a b : ℕ) (new : List ℕ) → start ≤ a → a ≤ length text
-      → IsLineMark (replaced a b new text) line start
+  pub mark-kept : (a b : ℕ) (new : List ℕ) → place ≤ a → a ≤ length text
+      → IsLineMark (replaced a b new text) place feeds
   mark-kept a b new before within =
       let tail = new ++ drop b text in
       let size : length (take a text) ≡ a = length-take-le a text within in
-      let same : take start text ≡ take start (take a text ++ tail) =
-      sym (take-append-le start (take a text) tail (omega (arith, before, size))
-      ∙ take-take start a text before within) in
+      let same : take place text ≡ take place (take a text ++ tail) =
+      sym (take-append-le place (take a text) tail (omega (arith, before, size))
+      ∙ take-take place a text before within) in
       record {
         within = omega (arith, before, size, length-append (take a text) tail);
-        ends = subst EndsLine same mark.ends;
-        number = mark.number ∙ ap (λ l. length (lines_of l)) same;
+        counted = mark.counted ∙ ap line_feeds same;
       }
 
   -- so it does where memory is refused
-  pub mark-put : (a b : ℕ) (new : List ℕ) → start ≤ a → a ≤ length text → {T E : Type 0}
+  pub mark-put : (a b : ℕ) (new : List ℕ) → place ≤ a → a ≤ length text → {T E : Type 0}
       → (r : Result T E) (made : List ℕ) → OnOk r (made ≡ replaced a b new text)
-      → OnErr r (made ≡ text) → IsLineMark made line start
+      → OnErr r (made ≡ text) → IsLineMark made place feeds
   mark-put a b new before within (Ok v) made ok err =
-      subst (λ t. IsLineMark t line start) (sym ok) (mark-kept a b new before within)
+      subst (λ t. IsLineMark t place feeds) (sym ok) (mark-kept a b new before within)
   mark-put a b new before within (Err e) made ok err =
-      subst (λ t. IsLineMark t line start) (sym err) mark
+      subst (λ t. IsLineMark t place feeds) (sym err) mark

@@ -142,8 +142,9 @@ unless_found file text (holds found) =
     if bytes_eq found text && is_counted_alike text then None else Some (not_open file)
 unless_found file text _ = Some (not_open file)
 
--- why one that is open is not, if so: it is found under a second name
+-- why one that is open is not, if so: it is found under a second name, or memory is refused
 abbrev pub unless_linked : (file : List ℕ) → Reading → Option Unrenamed
+unless_linked file no_room = Some no_memory
 unless_linked file linked = Some (second_name file)
 unless_linked file _ = None
 

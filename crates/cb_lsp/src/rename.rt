@@ -237,7 +237,8 @@ impl<'a> Renaming<'a> {
     {
         match found {
             Found::Linked => Some(Unedited::SecondName(file)),
-            _ => None,
+            Found::Gone | Found::Unreadable | Found::Holds(_) => None,
+            Found::NoRoom => Some(Unedited::NoMemory),
         }
     }
 

@@ -1,14 +1,12 @@
--- Where a line of a text begins.
-use Rattle.std.specs.Prelude.{◌≡◌, ◌≤◌, ◌-◌, ◌⊎◌, ℕ, List, length, slice_index, take}
-use Rattle.bstr.specs.Text.{lines_of}
-use Rattle.cb_scan.specs.Bytes.{line_feed}
+-- Places with the line feeds before them.
+use Rattle.std.specs.Prelude.{◌≡◌, ◌≤◌, ◌<◌, ◌⊎◌, ℕ, List, length, take}
+use Rattle.cb_wire.specs.Positions.{line_feeds}
 
--- the bytes end a line, or there are none
-abbrev pub EndsLine : List ℕ → Type 0
-EndsLine bytes = (length bytes ≡ 0) ⊎ (slice_index bytes (length bytes - 1) ≡ line_feed)
+-- so many line feeds stand before the place
+pub record IsLineMark (text : List ℕ) (place feeds : ℕ) : Type 0 where
+  pub within : place ≤ length text
+  pub counted : feeds ≡ line_feeds (take place text)
 
--- the line of that number, counted from 0, begins at the place
-pub record IsLineMark (text : List ℕ) (line start : ℕ) : Type 0 where
-  pub within : start ≤ length text
-  pub ends : EndsLine (take start text)
-  pub number : line ≡ length (lines_of (take start text))
+-- a line begins behind a place with so many line feeds before it, or the place is the start
+abbrev pub IsBefore : (place feeds line : ℕ) → Type 0
+IsBefore place feeds line = (place ≡ 0) ⊎ (feeds < line)

@@ -8,7 +8,7 @@ invariant_of-self c =
     let is = c.as_slice.ensures.value in
     let places = c.places_of-start.result in
     let found = c.places_of-start.ensures in
-    mark-put c.self.inside.text.items places.2.line places.2.start
-    (subst (λ t. IsLineMark t places.2.line places.2.start) is found.mark) places.0 c.max.result
+    mark-put c.self.inside.text.items places.2.place places.2.feeds
+    (subst (λ t. IsLineMark t places.2.place places.2.feeds) is found.mark) places.0 c.max.result
     c.args.new.now found.before (subst (λ t. places.0 ≤ length t) is found.within.0)
     c.replace.result _ c.replace.ensures.ok c.replace.ensures.err
