@@ -113,6 +113,35 @@ def local_at(text, place):
     return names.local(token) if token and names.is_local(token.place) else None
 
 
+def space_at(text, place):
+    """The name space of the name of the code at a place, or none: a label is no space here."""
+    names = names_of(text)
+    token = names.token_at(place)
+    index = names.index.get(token.place) if token else None
+    if index is None or token.place in names.left_out:
+        return None
+    code = names.code
+    before, after = code.before(index), code.following(index)
+    touches = code.before(before) == before - 1 and code.touch(before - 1)
+    if code.text(before) == b"." and not (code.text(before - 1) == b"." and touches):
+        return "member"
+    if code.text(before) == b">" and code.text(before - 1) == b"-" and touches:
+        return "member"
+    word = before
+    if code.text(after) == b"{":
+        while code.is_name(word):
+            word = code.before(word)
+    is_tag = code.text(word) in (b"struct", b"union", b"enum")
+    if is_tag and code.text(after) != b"{":
+        behind = after
+        while code.is_name(behind):
+            behind = code.following(behind)
+        is_tag = code.text(behind) != b"{"
+    if is_tag:
+        return code.text(word).decode()
+    return "called" if code.text(after) == b"(" else "plain"
+
+
 def locals_of(text):
     """The names that name a local, each a token."""
     if b"{" not in text:

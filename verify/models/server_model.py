@@ -18,7 +18,7 @@ from typing import Callable, NamedTuple, Optional
 import text_model
 import wide_model
 from disk_model import GONE, LINKED, UNREADABLE, Disk
-from locals_model import local_at, names_of
+from locals_model import local_at, names_of, space_at
 from reach_model import Refusal, Tree
 from session_model import Bounds, Outcome, Refused, World, drop, is_file_name, load, reload, told
 from text_model import RESERVED, cut_lines, headers, is_counted_alike
@@ -471,6 +471,38 @@ def changes_of(params):
     return changes
 
 
+# The kinds of definitions that a name in a space is looked for in: the first that it has count.
+ORDINARY = b"fdtevxp"
+KINDS_OF_SPACES = {
+    None: [ORDINARY + b"sugm"],
+    "member": [b"m", b"d"],
+    "struct": [b"s", b"sug", b"d"],
+    "union": [b"u", b"sug", b"d"],
+    "enum": [b"g", b"sug", b"d"],
+    "called": [b"fdp", ORDINARY],
+    "plain": [ORDINARY],
+}
+
+
+def of_kinds(places, kinds):
+    return [it for it in places if it.definition.kind in kinds]
+
+
+def is_private(place):
+    """Whether a definition is private to its file."""
+    one = place.definition
+    return place.file.endswith(b".c") and (one.local or one.kind not in b"fvxp")
+
+
+def apart(one, other):
+    """How many folders of two files the other one does not share."""
+    here, there = one.split(b"/")[:-1], other.split(b"/")[:-1]
+    same = 0
+    while same < min(len(here), len(there)) and here[same] == there[same]:
+        same += 1
+    return len(here) + len(there) - 2 * same
+
+
 class Place(NamedTuple):
     """A definition in its file."""
 
@@ -816,6 +848,29 @@ class Server:
             return [it for it in named if it.file == file]
         return [it for it in named if it.file not in private] or named
 
+    def shown(self, file, text, place, word):
+        """The definitions that are shown of a word, in the order in which they are."""
+        if word is None:
+            return []
+        named, _ = self.named(text[word[0] : word[1]])
+        members = [it for it in named if it.file == file and it.definition.kind == b"m"]
+        if any(self.is_word_of(it, word) for it in members):
+            kinds = KINDS_OF_SPACES["member"]
+        else:
+            kinds = KINDS_OF_SPACES[space_at(text, place)]
+        wanted = next((one for one in kinds if of_kinds(named, one)), kinds[-1])
+        found = of_kinds(named, wanted)
+        if wanted == b"m":
+            return found
+        seen = [it for it in found if it.file == file or not is_private(it)] or found
+        seen = [it for it in seen if it.definition.kind not in (b"x", b"p")] or seen
+        own = [it for it in seen if it.file == file]
+        return own or sorted(seen, key=lambda it: min(apart(file, it.file), 16))
+
+    @staticmethod
+    def is_word_of(one, word):
+        return (one.definition.place, len(one.definition.name)) == (word[0], word[1] - word[0])
+
     def reached(self, file, name):
         """The files that the reach of a name has, from a file."""
         private = self.named(name)[1]
@@ -876,8 +931,8 @@ class Server:
             defined = [] if local.definition is None else [local.definition]
             return self.spans_of(file, local.name, defined)
         word = word_at(text, place)
-        meant = self.meant(file, text[word[0] : word[1]]) if word else []
-        return listed(self.location(it.file, self.range_of(it)) for it in meant)
+        found = self.shown(file, text, place, word)
+        return listed(self.location(it.file, self.range_of(it)) for it in found)
 
     def files_of_header(self, file, name):
         beside = file[: file.rfind(b"/") + 1] + name
@@ -896,8 +951,8 @@ class Server:
             start = local.definition
             lines = [] if start is None else [(file, text.count(b"\n", 0, start) + 1)]
         else:
-            meant = self.meant(file, text[word[0] : word[1]])[:MOST_HOVERED]
-            lines = [(it.file, it.definition.line) for it in meant]
+            found = self.shown(file, text, place, word)[:MOST_HOVERED]
+            lines = [(it.file, it.definition.line) for it in found]
         if not lines:
             return b"null"
         rows = []

@@ -35,6 +35,7 @@ pub mod NamedCalls
 pub mod NamedTags
 pub mod NamedUses
 pub mod NamedWords
+mod NearestLeft
 pub mod NoText
 pub mod Notices
 pub mod Numbers

@@ -1,6 +1,6 @@
 -- The names of what a word means and of what a query finds stand where they say.
 use Rattle.std.proofs.Common.{◌≡◌, ◌∙◌, ◌+◌, ◌-◌, ℕ, List, [], ◌∷◌, ap, arith, cond, drop, Less}
-use Rattle.std.proofs.Common.{length, length-drop, map, refl, subst, sym}
+use Rattle.std.proofs.Common.{length, length-drop, map, refl, subst, sym, Option}
 use Rattle.std.specs.List.{AllByRecursion, flat_map}
 use Rattle.std.specs.Str.{bytes_eq}
 use Rattle.std.proofs.lemmas.List.{length-take}
@@ -25,7 +25,9 @@ use Rattle.cb_scan.specs.declared.lex.piece.Span.{Span}
 use Rattle.cb_scan.specs.declared.profile.Profile.{Profile}
 use Rattle.cb_scan.specs.lex.Tokens.{bytes_of}
 use Rattle.cb_tags.specs.TagLines.{Tag}
-use Rattle.cb_lsp.specs.Answers.{word_meaning}
+use Rattle.cb_lsp.specs.Answers.{word_meaning, word_shown}
+use Rattle.cb_lsp.proofs.NearestLeft.{shown-all}
+use Rattle.cb_names.specs.declared.space.Space.{Space}
 use Rattle.cb_lsp.specs.Meaning.{meaning, or_all, reached, reaches}
 use Rattle.cb_lsp.specs.Ranges.{IsNamedIn, StandsIn, span_of}
 use Rattle.cb_lsp.specs.Searches.{found_by, is_like}
@@ -124,6 +126,12 @@ pub meaning-named : (w : World) (name text : List ℕ) (word : Span) → IsAscen
     → AllByRecursion (IsNamedIn w.files) (word_meaning w name text word)
 meaning-named w name text word order =
     reached-have (IsNamedIn w.files) (tags_named w.profile (bytes_of text word) w.files) name
+    (named-named w.files w.profile (bytes_of text word) w.files (own-texts w.files order))
+
+pub shown-named : (w : World) (name text : List ℕ) (space : Option Space) (word : Span)
+    → IsAscending w.files → AllByRecursion (IsNamedIn w.files) (word_shown w name text space word)
+shown-named w name text space word order =
+    shown-all (IsNamedIn w.files) name _ (tags_named w.profile (bytes_of text word) w.files)
     (named-named w.files w.profile (bytes_of text word) w.files (own-texts w.files order))
 
 -- ---- what a query finds

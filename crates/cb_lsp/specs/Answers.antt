@@ -1,13 +1,19 @@
 -- The answers to questions, as values of JSON.
-use Rattle.std.specs.Prelude.{ℕ, Bool, List, [], ◌∷◌, map, Option, None, Some, take, option_map}
+use Rattle.std.specs.Prelude.{ℕ, Bool, true, false, ◌&&◌, ◌==◌, List, [], ◌∷◌, map, Option, None}
+use Rattle.std.specs.Prelude.{Some, take, option_map}
 use Rattle.std.specs.Prelude.{Result, Ok, Err}
 use Rattle.std.specs.Prelude.{if◌then◌else◌}
+use Rattle.std.specs.List.{list_any}
 use Rattle.json.specs.Json.{Json, array, null}
 use Rattle.cb_desk.specs.World.{World, has_file, text_of_file}
 use Rattle.cb_index.specs.Rows.{Fact, tags_named, uses_of}
 use Rattle.cb_names.specs.Meanings.{local_at}
+use Rattle.cb_names.specs.SpaceAt.{space_at}
+use Rattle.cb_names.specs.declared.space.Space.{Space}
+use Rattle.cb_names.specs.declared.space.Space.TheVariants as name_space
 use Rattle.cb_names.specs.Locals.{LocalName}
 use Rattle.cb_names.specs.declared.local.LocalUse.{LocalUse}
+use Rattle.cb_scan.specs.declared.facts.Def.{Def}
 use Rattle.cb_scan.specs.declared.facts.Include.{Include}
 use Rattle.cb_scan.specs.declared.facts.Use.{Use}
 use Rattle.cb_scan.specs.declared.lex.piece.Span.{Span}
@@ -33,6 +39,7 @@ use Rattle.cb_lsp.specs.Highlights.{highlight}
 use Rattle.cb_lsp.specs.Hovers.{hover_at_place, hover_of, hover_texts}
 use Rattle.cb_lsp.specs.Locals.{definition_places, local_mark, token_place, uses_wanted}
 use Rattle.cb_lsp.specs.Meaning.{meaning}
+use Rattle.cb_lsp.specs.Nearest.{is_member, kinds_at, shown}
 use Rattle.cb_lsp.specs.Places.{range_of}
 use Rattle.cb_lsp.specs.Outgoing.{outgoing_calls}
 use Rattle.cb_lsp.specs.Questions.{Asked, folds, in_file, incoming, outgoing, rename}
@@ -67,10 +74,16 @@ some_of (j ∷ js) = list_of (j ∷ js)
 abbrev pub word_meaning : World → (name text : List ℕ) → Span → List Tag
 word_meaning w name text word = meaning (tags_named w.profile (bytes_of text word) w.files) name
 
-abbrev pub places_of_word : Client → World → (name text : List ℕ) → Option Span → Json
-places_of_word c w name text None = list_of []
-places_of_word c w name text (Some word) =
-    list_of (map (place_of c w.files) (word_meaning w name text word))
+-- the definitions that are shown of a word, where its name has this space
+abbrev pub word_shown : World → (name text : List ℕ) → Option Space → Span → List Tag
+word_shown w name text space word =
+    let ts = tags_named w.profile (bytes_of text word) w.files in shown name (kinds_at space ts) ts
+
+abbrev pub places_of_word : Client → World → (name text : List ℕ) → Option Space → Option Span
+    → Json
+places_of_word c w name text space None = list_of []
+places_of_word c w name text space (Some word) =
+    list_of (map (place_of c w.files) (word_shown w name text space word))
 
 -- what a hover shows of a word
 abbrev pub hover_over : Client → List ℕ → Span → List Tag → Json
@@ -78,9 +91,10 @@ hover_over c text word [] = null
 hover_over c text word (t ∷ ts) =
     hover_of (hover_texts (t ∷ ts)) (range_of c.encoding text word.start word.end)
 
-abbrev pub hover_at : Client → World → (name text : List ℕ) → Option Span → Json
-hover_at c w name text None = null
-hover_at c w name text (Some word) = hover_over c text word (word_meaning w name text word)
+abbrev pub hover_at : Client → World → (name text : List ℕ) → Option Space → Option Span → Json
+hover_at c w name text space None = null
+hover_at c w name text space (Some word) =
+    hover_over c text word (word_shown w name text space word)
 
 -- the uses of a word, as ranges that are marked
 abbrev pub highlights_of : Encoding → (text : List ℕ) → (uses : List Use) → Option Span → Json
@@ -109,16 +123,35 @@ callables_at c w name text (Some word) =
 
 -- ---- at a place of a file
 
--- a question about a word
-abbrev pub word_answer : Client → World → (name text : List ℕ) → Option Span → PlaceQuestion → Json
-word_answer c w name text word Definition = places_of_word c w name text word
-word_answer c w name text word Hover = hover_at c w name text word
-word_answer c w name text word Highlights =
+-- the name at a place is that of a member that is defined there
+abbrev pub is_member_at : Span → Def → Bool
+is_member_at word d =
+    is_member d.kind && d.name.start == word.start && d.name.end == word.end
+
+-- the name space of the name at a place, where this word stands
+abbrev pub space_there : List Def → (text : List ℕ) → (place : ℕ) → Option Span → Option Space
+space_there ds text at None = space_at text at
+space_there ds text at (Some word) =
+    if list_any (is_member_at word) ds then Some name_space.Member else space_at text at
+
+-- the same where a question is about definitions
+abbrev pub space_asked : List Def → (text : List ℕ) → (place : ℕ) → Option Span → PlaceQuestion
+    → Option Space
+space_asked ds text at word Definition = space_there ds text at word
+space_asked ds text at word Hover = space_there ds text at word
+space_asked ds text at word _ = None
+
+-- a question about a word, where its name has this space
+abbrev pub word_answer : Client → World → (name text : List ℕ) → Option Space → Option Span
+    → PlaceQuestion → Json
+word_answer c w name text space word Definition = places_of_word c w name text space word
+word_answer c w name text space word Hover = hover_at c w name text space word
+word_answer c w name text space word Highlights =
     highlights_of c.encoding text (facts_in w.profile text).uses word
-word_answer c w name text word (References declarations) =
+word_answer c w name text space word (References declarations) =
     references_of_word c w name text declarations word
-word_answer c w name text word PrepareRename = prepared c text (if_renamable w text word)
-word_answer c w name text word Callables = callables_at c w name text word
+word_answer c w name text space word PrepareRename = prepared c text (if_renamable w text word)
+word_answer c w name text space word Callables = callables_at c w name text word
 
 -- what a hover shows of a name with this definition, at a word
 abbrev pub local_hover : Client → (name text : List ℕ) → Span → Option Span → Json
@@ -150,10 +183,12 @@ local_answer c name text own word PrepareRename = prepared_local c text word own
 local_answer c name text own word Callables = null
 
 -- one about a name that may mean something in its function alone
-abbrev pub name_answer : Client → World → (name text : List ℕ) → Option LocalName → Option Span
-    → PlaceQuestion → Json
-name_answer c w name text None word question = word_answer c w name text word question
-name_answer c w name text (Some own) word question = local_answer c name text own word question
+abbrev pub name_answer : Client → World → (name text : List ℕ) → Option LocalName → Option Space
+    → Option Span → PlaceQuestion → Json
+name_answer c w name text None space word question =
+    word_answer c w name text space word question
+name_answer c w name text (Some own) space word question =
+    local_answer c name text own word question
 
 -- the header at a place, where a definition is asked for
 abbrev pub header_asked : List Include → (place : ℕ) → PlaceQuestion → Option Span
@@ -166,7 +201,9 @@ abbrev pub place_answer : Client → World → (name text : List ℕ) → (place
 place_answer c w name text at (Some header) question =
     list_of (map (file_place c) (header_files w.files name (bytes_of text header)))
 place_answer c w name text at None question =
-    name_answer c w name text (local_at text at) (word_at text at) question
+    let word = word_at text at in
+    name_answer c w name text (local_at text at)
+    (space_asked (facts_in w.profile text).defs text at word question) word question
 
 -- ---- of a file
 

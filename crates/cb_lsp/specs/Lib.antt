@@ -26,6 +26,8 @@ pub mod MeaningExamples
 pub mod Messages
 pub mod Models
 pub mod Names
+pub mod Nearest
+pub mod NearestExamples
 pub mod Outgoing
 pub mod Params
 pub mod PlaceExamples

@@ -7,6 +7,7 @@ pub mod LineMarks
 pub mod LocalRenames
 pub mod Located
 pub mod Meanings
+pub mod Nearby
 pub mod Noted
 pub mod Outgoing
 pub mod References

@@ -1,6 +1,6 @@
 //! The answers to questions, as replies.
 ghost use Rattle.std.specs.Prelude.{◌≡◌, ◌≤◌, ◌++◌, ℕ, Bool, MatchOption, List, [], Some, false};
-ghost use Rattle.std.specs.Prelude.{length, map, take, true};
+ghost use Rattle.std.specs.Prelude.{IfOk, length, map, take, true};
 ghost use Rattle.std.specs.List.{list_any};
 ghost use Rattle.json.specs.Json.{Json, array};
 ghost use Rattle.json.specs.Print.{escape};
@@ -19,7 +19,8 @@ ghost use Rattle.cb_wire.specs.Trees.{result_reply};
 ghost use Rattle.cb_wire.specs.Values.{items_of, value_text};
 ghost use Rattle.cb_wire.specs.declared.list.TheConstants.{MOST_ELEMENTS};
 ghost use Rattle.cb_lsp.specs.Answers.{answer_in, callables_at, header_asked, highlights_of};
-ghost use Rattle.cb_lsp.specs.Answers.{hover_at, hover_over, list_of, name_answer, place_answer};
+ghost use Rattle.cb_lsp.specs.Answers.{hover_at, hover_over, is_member_at, list_of, name_answer};
+ghost use Rattle.cb_lsp.specs.Answers.{place_answer, space_asked, space_there, word_shown};
 ghost use Rattle.cb_lsp.specs.Answers.{places_of_word, references_of_word, some_of, word_answer};
 ghost use Rattle.cb_lsp.specs.Answers.{word_meaning, word_references};
 ghost use Rattle.cb_lsp.specs.Calls.{callables, item_of};
@@ -34,6 +35,7 @@ ghost use Rattle.cb_lsp.specs.Words.{word_at};
 ghost use Rattle.cb_lsp.specs.steps.Completions.{names_left};
 ghost use Rattle.cb_lsp.specs.steps.Located.{client_in};
 ghost use Rattle.cb_lsp.specs.steps.Meanings.{meaning_left};
+ghost use Rattle.cb_lsp.specs.steps.Nearby.{nearest_left};
 ghost use Rattle.cb_lsp.specs.steps.References.{references_left};
 ghost use Rattle.cb_lsp.specs.declared.symbols.TheConstants.{MOST_SYMBOLS};
 
@@ -45,6 +47,7 @@ use crate::highlights::Highlights;
 use crate::hover::{Hovers, MOST_HOVERS};
 use crate::location::{Forms, Located, range_of};
 use crate::meaning::Meaning;
+use crate::nearest::Nearest;
 use crate::place::bytes_of;
 use crate::question::{FileQuestion, PlaceQuestion};
 use crate::references::{References, UsePlaces};
@@ -56,8 +59,8 @@ use crate::word::{word_at, word_before};
 use crate::written::{put_null, put_refusal};
 use cb_desk::{Desk, Format};
 use cb_index::TagSpot;
-use cb_names::local_at;
-use cb_scan::{Facts, Source, Span};
+use cb_names::{Space, local_at, space_at};
+use cb_scan::{Def, Facts, Kind, ScanError, Source, Span};
 use cb_tags::{Sink, WriteFault};
 use cb_wire::{
     Elements, Id, MOST_ELEMENTS, Part, Position, Range, list_in_memory, place_of_position,
@@ -75,6 +78,13 @@ pub(crate) struct FileAsked<'a> {
     pub(crate) name: &'a [u8],
     pub(crate) source: &'a Source,
     pub(crate) facts: &'a Facts,
+}
+
+/// Whether a definition is that of a member with the name that a word is.
+fn is_member_at(word: Span, def: &Def) -> bool
+    ensures { result ≡ is_member_at word def.now }
+{
+    matches!(def.kind, Kind::Member) && def.name.start == word.start && def.name.end == word.end
 }
 
 /// Writes a reply whose result is the first of some elements.
@@ -274,16 +284,26 @@ impl<'a> FileAsked<'a> {
         )
     }
 
-    /// Writes where what a word means is.
+    /// The definitions that are shown of a word of the file, where its name has this space.
+    fn shown<'p>(&'p self, word: Span, space: Option<Space>) -> Nearest<'a, 'p>
+        ensures { nearest_left result ≡ word_shown self.now.desk.now.timeline.present
+            self.now.name.now self.now.source.now space word }
+    {
+        let rows = self.desk.definitions(bytes_of(self.source, word));
+        Nearest::new(rows, self.name, space)
+    }
+
+    /// Writes where the definitions that are shown of a word are.
     fn put_places<W: Write>(
         &self,
         out: &mut Sink<W>,
         id: Id<'_>,
         word: Option<Span>,
+        space: Option<Space>,
     ) -> Result<(), WriteFault>
         ensures { Puts out.old out.new result (frame (value_text (result_reply (id_json id.entry)
             (places_of_word (client_in self.now.forms) self.now.desk.now.timeline.present
-            self.now.name.now self.now.source.now word)))) }
+            self.now.name.now self.now.source.now space word)))) }
     {
         match word {
             Some(word) => put_list(
@@ -291,7 +311,7 @@ impl<'a> FileAsked<'a> {
                 id,
                 Places {
                     places: Located::new(self.forms, self.desk),
-                    rest: self.meaning(word),
+                    rest: self.shown(word, space),
                 },
             ),
             None => put_list(
@@ -305,18 +325,20 @@ impl<'a> FileAsked<'a> {
         }
     }
 
-    /// Writes what a word means.
+    /// Writes the definitions that are shown of a word.
     fn put_word<W: Write>(
         &self,
         out: &mut Sink<W>,
         id: Id<'_>,
         word: Span,
+        space: Option<Space>,
     ) -> Result<(), WriteFault>
         ensures { Puts out.old out.new result (frame (value_text (result_reply (id_json id.entry)
-            (hover_over (client_in self.now.forms) self.now.source.now word (word_meaning
-            self.now.desk.now.timeline.present self.now.name.now self.now.source.now word))))) }
+            (hover_over (client_in self.now.forms) self.now.source.now word (word_shown
+            self.now.desk.now.timeline.present self.now.name.now self.now.source.now space
+            word))))) }
     {
-        let rest = self.meaning(word);
+        let rest = self.shown(word, space);
         let mut first = rest.again();
         match first.next() {
             Some(_) => {
@@ -333,13 +355,14 @@ impl<'a> FileAsked<'a> {
         out: &mut Sink<W>,
         id: Id<'_>,
         word: Option<Span>,
+        space: Option<Space>,
     ) -> Result<(), WriteFault>
         ensures { Puts out.old out.new result (frame (value_text (result_reply (id_json id.entry)
             (hover_at (client_in self.now.forms) self.now.desk.now.timeline.present
-            self.now.name.now self.now.source.now word)))) }
+            self.now.name.now self.now.source.now space word)))) }
     {
         match word {
-            Some(word) => self.put_word(out, id, word),
+            Some(word) => self.put_word(out, id, word, space),
             None => put_null(out, id),
         }
     }
@@ -549,29 +572,65 @@ impl<'a> FileAsked<'a> {
         }
     }
 
-    /// Answers a question about a word of the file.
+    /// Answers a question about a word of the file, whose name has this space.
     fn put_about_word<W: Write>(
         &self,
         out: &mut Sink<W>,
         id: Id<'_>,
         word: Option<Span>,
+        space: Option<Space>,
         question: PlaceQuestion,
     ) -> Result<(), WriteFault>
         requires { self.now.facts.now
             ≡ facts_in self.now.desk.now.timeline.present.profile self.now.source.now }
         ensures { Puts out.old out.new result (frame (value_text (result_reply (id_json id.entry)
             (word_answer (client_in self.now.forms) self.now.desk.now.timeline.present
-            self.now.name.now self.now.source.now word question)))) }
+            self.now.name.now self.now.source.now space word question)))) }
     {
         match question {
-            PlaceQuestion::Definition => self.put_places(out, id, word),
-            PlaceQuestion::Hover => self.put_hover(out, id, word),
+            PlaceQuestion::Definition => self.put_places(out, id, word, space),
+            PlaceQuestion::Hover => self.put_hover(out, id, word, space),
             PlaceQuestion::Highlights => self.put_highlights(out, id, word),
             PlaceQuestion::References(declarations) => {
                 self.put_references(out, id, word, declarations)
             }
             PlaceQuestion::PrepareRename => self.put_prepared(out, id, self.renamable(word)),
             PlaceQuestion::Callables => self.put_callables_at(out, id, word),
+        }
+    }
+
+    /// Whether a word of the file is the name of a member that is defined there.
+    fn names_member(&self, word: Span) -> bool
+        ensures { result ≡ list_any (is_member_at word) self.now.facts.now.defs }
+    {
+        self.facts.defs().iter().any(|def| is_member_at(word, def))
+    }
+
+    /// The name space of the name at a place, where this word stands.
+    fn space_there(&self, place: u32, word: Option<Span>) -> Result<Option<Space>, ScanError>
+        ensures { IfOk result (λ found. found ≡ space_there self.now.facts.now.defs
+            self.now.source.now place word) }
+    {
+        match word {
+            Some(word) if self.names_member(word) => Ok(Some(Space::Member)),
+            _ => space_at(self.alloc, self.source, place),
+        }
+    }
+
+    /// The same where a question is about definitions.
+    fn space_asked(
+        &self,
+        place: u32,
+        word: Option<Span>,
+        question: PlaceQuestion,
+    ) -> Result<Option<Space>, ScanError>
+        ensures { IfOk result (λ found. found ≡ space_asked self.now.facts.now.defs
+            self.now.source.now place word question) }
+    {
+        match question {
+            PlaceQuestion::Definition => self.space_there(place, word),
+            PlaceQuestion::Hover => self.space_there(place, word),
+            _ => Ok(None),
         }
     }
 
@@ -590,12 +649,16 @@ impl<'a> FileAsked<'a> {
         ensures { (no_memory : Bool) × Puts out.old out.new result (frame (value_text
             (result_unless no_memory (id_json id.entry) (name_answer (client_in self.now.forms)
             self.now.desk.now.timeline.present self.now.name.now self.now.source.now
-            (local_at self.now.source.now place) (word_at self.now.source.now place)
-            question)))) }
+            (local_at self.now.source.now place) (space_asked self.now.facts.now.defs
+            self.now.source.now place (word_at self.now.source.now place) question)
+            (word_at self.now.source.now place) question)))) }
     {
         let word = word_at(self.source, place as usize);
         match local_at(self.alloc, self.source, place) {
-            Ok(None) => self.put_about_word(out, id, word, question),
+            Ok(None) => match self.space_asked(place, word, question) {
+                Ok(space) => self.put_about_word(out, id, word, space, question),
+                Err(_) => put_refusal(out, id),
+            },
             Ok(Some(own)) => self.put_about_local(out, id, &own, word, question),
             Err(_) => put_refusal(out, id),
         }

@@ -5,7 +5,7 @@ ghost use Rattle.cb_wire.specs.Texts.{parts_text};
 ghost use Rattle.cb_lsp.specs.Hovers.{cut_line, hover_at_place};
 ghost use Rattle.cb_lsp.specs.steps.Elements.{hover_element, hovers_left};
 
-use crate::meaning::Meaning;
+use crate::nearest::Nearest;
 use cb_desk::unindented;
 use cb_scan::Source;
 use cb_tags::{Sink, WriteFault};
@@ -77,10 +77,10 @@ impl Element for Hover<'_> {
     }
 }
 
-/// What a word means, as a hover shows it.
+/// The definitions that are shown of a word, as a hover shows them.
 #[derive(Drop)]
 pub(crate) struct Hovers<'a, 'p> {
-    pub(crate) rest: Meaning<'a, 'p>,
+    pub(crate) rest: Nearest<'a, 'p>,
 }
 
 impl<'a, 'p> Elements for Hovers<'a, 'p> {

@@ -28,6 +28,7 @@ mod local;
 mod local_rename;
 mod location;
 mod meaning;
+mod nearest;
 mod notice;
 mod outgoing;
 mod params;

@@ -19,7 +19,7 @@ ghost use Rattle.cb_lsp.specs.steps.Elements.{flat_left, places_left, session_le
 use crate::columns::Positions;
 use crate::kind::kind_number;
 use crate::location::{Forms, Located, file_place};
-use crate::meaning::Meaning;
+use crate::nearest::Nearest;
 use crate::place::bytes_of;
 use crate::text::holds_like;
 use cb_desk::{Definitions, Desk, Files, Format, TagRows, is_header};
@@ -153,11 +153,11 @@ impl<'a> Elements for TreeSymbols<'a> {
     }
 }
 
-/// Where what a word means is.
+/// Where the definitions that are shown of a word are.
 #[derive(Drop)]
 pub(crate) struct Places<'a, 'p> {
     pub(crate) places: Located<'a>,
-    pub(crate) rest: Meaning<'a, 'p>,
+    pub(crate) rest: Nearest<'a, 'p>,
 }
 
 impl<'a, 'p> Elements for Places<'a, 'p> {

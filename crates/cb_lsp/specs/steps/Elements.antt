@@ -36,6 +36,7 @@ use Rattle.cb_lsp.specs.declared.symbols.SessionSymbols.{SessionSymbols}
 use Rattle.cb_lsp.specs.declared.symbols.TreeSymbols.{TreeSymbols}
 use Rattle.cb_lsp.specs.steps.Located.{client_in}
 use Rattle.cb_lsp.specs.steps.Meanings.{meaning_left}
+use Rattle.cb_lsp.specs.steps.Nearby.{nearest_left}
 use Rattle.cb_lsp.specs.steps.References.{references_left}
 
 -- what a client takes of the definitions of a file
@@ -65,7 +66,7 @@ tree_left s = defs_left true s.defs
 
 abbrev pub places_left : Places → List (List ℕ)
 places_left p =
-    map (λ t. value_text (place_of p.places.client p.places.files t)) (meaning_left p.rest)
+    map (λ t. value_text (place_of p.places.client p.places.files t)) (nearest_left p.rest)
 
 abbrev pub uses_left : UsePlaces → List (List ℕ)
 uses_left p =
@@ -108,7 +109,7 @@ abbrev pub folds_left : Folds → List (List ℕ)
 folds_left f = map value_text (folded f.source.now f.rest.now)
 
 abbrev pub hovers_left : Hovers → List (List ℕ)
-hovers_left h = map (λ t. escape (hover_text t)) (meaning_left h.rest)
+hovers_left h = map (λ t. escape (hover_text t)) (nearest_left h.rest)
 
 abbrev pub callables_left : Meaning → List Tag
 callables_left m = callables (meaning_left m)

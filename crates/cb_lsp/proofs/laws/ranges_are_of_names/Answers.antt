@@ -1,5 +1,5 @@
 use Rattle.cb_lsp.proofs.NamedCalls.{reached-named}
-use Rattle.cb_lsp.proofs.NamedTags.{found-named, meaning-named}
+use Rattle.cb_lsp.proofs.NamedTags.{found-named, meaning-named, shown-named}
 use Rattle.cb_lsp.proofs.NamedUses.{references-named}
 use Rattle.cb_lsp.proofs.NamedWords.{word-named}
 use Rattle.cb_lsp.proofs.laws.ranges_are_of_names.Goals as goal
@@ -9,6 +9,9 @@ returns-clause-word c = word-named
 
 pub returns-clause-meaning : goal.returns-clause-meaning
 returns-clause-meaning c = meaning-named
+
+pub returns-clause-shown : goal.returns-clause-shown
+returns-clause-shown c = shown-named
 
 pub returns-clause-uses : goal.returns-clause-uses
 returns-clause-uses c = references-named

@@ -4,10 +4,12 @@ use Rattle.cb_wire.specs.Messages.{id_json}
 use Rattle.cb_wire.specs.Texts.{frame}
 use Rattle.cb_wire.specs.Trees.{result_reply}
 use Rattle.cb_wire.specs.Values.{value_text}
-use Rattle.cb_lsp.specs.Answers.{list_of, place_answer}
+use Rattle.cb_names.specs.Meanings.{local_at}
+use Rattle.cb_lsp.specs.Answers.{list_of, name_answer, place_answer, space_asked}
 use Rattle.cb_lsp.specs.Headers.{header_files}
 use Rattle.cb_lsp.specs.Messages.{result_unless}
 use Rattle.cb_lsp.specs.Symbols.{file_place}
+use Rattle.cb_lsp.specs.Words.{word_at}
 use Rattle.cb_lsp.specs.steps.Located.{client_in}
 use Rattle.cb_lsp.proofs.answers.FileAsked.put_about_place.Goals as goal
 
@@ -31,11 +33,19 @@ returns-in-Some g c =
 pub returns-in-None : goal.returns-in-None
 returns-in-None g c =
     let f = c.args.self.now in
+    let w = f.desk.now.timeline.present in
+    let at = c.args.place in
+    let q = c.args.question in
+    let word = word_at f.source.now at in
     let call = c.put_about_name in (
       call.ensures.0,
       subst (λ o. Puts c.args.out.now call.new.out call.result
           (frame (value_text (result_unless call.ensures.0 (id_json c.args.id)
-          (place_answer (client_in f.forms) f.desk.now.timeline.present f.name.now f.source.now
-          c.args.place o c.args.question)))))
-          c.in-None.ensures call.ensures.1,
+          (place_answer (client_in f.forms) w f.name.now f.source.now at o q)))))
+          c.in-None.ensures
+          (subst (λ fs. Puts c.args.out.now call.new.out call.result
+          (frame (value_text (result_unless call.ensures.0 (id_json c.args.id)
+          (name_answer (client_in f.forms) w f.name.now f.source.now
+          (local_at f.source.now at) (space_asked fs.defs f.source.now at word q) word q)))))
+          c.requires.facts call.ensures.1),
     )

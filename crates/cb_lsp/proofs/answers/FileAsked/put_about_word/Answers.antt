@@ -15,7 +15,8 @@ returns-in-Definition g c =
     let call = c.put_places in
     subst (λ q. Puts c.args.out.now call.new.out call.result
     (frame (value_text (result_reply (id_json c.args.id)
-    (word_answer (client_in f.forms) f.desk.now.timeline.present f.name.now f.source.now c.args.word q)))))
+    (word_answer (client_in f.forms) f.desk.now.timeline.present f.name.now f.source.now c.args.space
+    c.args.word q)))))
     (sym c.in-Definition.is) call.ensures
 
 pub returns-in-Hover : goal.returns-in-Hover
@@ -24,7 +25,8 @@ returns-in-Hover g c =
     let call = c.put_hover in
     subst (λ q. Puts c.args.out.now call.new.out call.result
     (frame (value_text (result_reply (id_json c.args.id)
-    (word_answer (client_in f.forms) f.desk.now.timeline.present f.name.now f.source.now c.args.word q)))))
+    (word_answer (client_in f.forms) f.desk.now.timeline.present f.name.now f.source.now c.args.space
+    c.args.word q)))))
     (sym c.in-Hover.is) call.ensures
 
 pub returns-in-References : goal.returns-in-References
@@ -33,7 +35,8 @@ returns-in-References g c =
     let call = c.put_references in
     subst (λ q. Puts c.args.out.now call.new.out call.result
     (frame (value_text (result_reply (id_json c.args.id)
-    (word_answer (client_in f.forms) f.desk.now.timeline.present f.name.now f.source.now c.args.word q)))))
+    (word_answer (client_in f.forms) f.desk.now.timeline.present f.name.now f.source.now c.args.space
+    c.args.word q)))))
     (sym c.in-References.is) call.ensures
 
 pub returns-in-Callables : goal.returns-in-Callables
@@ -42,7 +45,8 @@ returns-in-Callables g c =
     let call = c.put_callables_at in
     subst (λ q. Puts c.args.out.now call.new.out call.result
     (frame (value_text (result_reply (id_json c.args.id)
-    (word_answer (client_in f.forms) f.desk.now.timeline.present f.name.now f.source.now c.args.word q)))))
+    (word_answer (client_in f.forms) f.desk.now.timeline.present f.name.now f.source.now c.args.space
+    c.args.word q)))))
     (sym c.in-Callables.is) call.ensures
 
 pub returns-in-Highlights : goal.returns-in-Highlights
@@ -51,7 +55,8 @@ returns-in-Highlights g c =
     let call = c.put_highlights in
     subst (λ q. Puts c.args.out.now call.new.out call.result
     (frame (value_text (result_reply (id_json c.args.id)
-    (word_answer (client_in f.forms) f.desk.now.timeline.present f.name.now f.source.now c.args.word q)))))
+    (word_answer (client_in f.forms) f.desk.now.timeline.present f.name.now f.source.now c.args.space
+    c.args.word q)))))
     (sym c.in-Highlights.is) (subst (λ fs. Puts c.args.out.now call.new.out call.result
     (frame (value_text (result_reply (id_json c.args.id)
     (highlights_of f.forms.encoding f.source.now fs.uses c.args.word)))))
@@ -63,7 +68,8 @@ returns-in-PrepareRename g c =
     let call = c.put_prepared in
     subst (λ q. Puts c.args.out.now call.new.out call.result
     (frame (value_text (result_reply (id_json c.args.id)
-    (word_answer (client_in f.forms) f.desk.now.timeline.present f.name.now f.source.now c.args.word q)))))
+    (word_answer (client_in f.forms) f.desk.now.timeline.present f.name.now f.source.now c.args.space
+    c.args.word q)))))
     (sym c.in-PrepareRename.is) (subst (λ o. Puts c.args.out.now call.new.out call.result
     (frame (value_text (result_reply (id_json c.args.id)
     (prepared (client_in f.forms) f.source.now o)))))

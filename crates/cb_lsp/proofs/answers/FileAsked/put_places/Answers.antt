@@ -8,7 +8,7 @@ use Rattle.cb_lsp.specs.Answers.{list_of, places_of_word}
 use Rattle.cb_lsp.specs.Symbols.{place_of}
 use Rattle.cb_lsp.specs.steps.Located.{client_in}
 use Rattle.cb_lsp.specs.steps.Located.{Locating}
-use Rattle.cb_lsp.specs.steps.Meanings.{meaning_left}
+use Rattle.cb_lsp.specs.steps.Nearby.{nearest_left}
 use Rattle.cb_lsp.proofs.Listed.{map-map}
 use Rattle.cb_lsp.proofs.answers.FileAsked.put_places.Goals as goal
 
@@ -17,14 +17,14 @@ returns-in-Some g c =
     let f = c.args.self.now in
     let w = f.desk.now.timeline.present in
     let place = place_of (client_in f.forms) w.files in
-    let found = meaning_left c.meaning.result in
+    let found = nearest_left c.shown.result in
     subst (λ o. Puts c.args.out.now c.put_list.new.out c.put_list.result
     (frame (value_text (result_reply (id_json c.args.id)
-    (places_of_word (client_in f.forms) w f.name.now f.source.now o)))))
+    (places_of_word (client_in f.forms) w f.name.now f.source.now c.args.space o)))))
     (sym c.in-Some.is)
     (subst (λ ts. Puts c.args.out.now c.put_list.new.out c.put_list.result
     (frame (value_text (result_reply (id_json c.args.id) (list_of (map place ts))))))
-    c.meaning.ensures
+    c.shown.ensures
     (c.put_list.ensures (map place found)
     (ap (λ (l : Locating). map (λ t. value_text (place_of l.client l.files t)) found) c.new.ensures
     ∙ map-map value_text place found)))
@@ -34,5 +34,5 @@ returns-in-None g c =
     let f = c.args.self.now in
     subst (λ o. Puts c.args.out.now c.put_list-in-None.new.out c.put_list-in-None.result
     (frame (value_text (result_reply (id_json c.args.id) (places_of_word (client_in f.forms)
-    f.desk.now.timeline.present f.name.now f.source.now o)))))
+    f.desk.now.timeline.present f.name.now f.source.now c.args.space o)))))
     (sym c.in-None.is) (c.put_list-in-None.ensures [] refl)

@@ -4,7 +4,7 @@ use Rattle.cb_wire.specs.Values.{value_text}
 use Rattle.cb_lsp.specs.Symbols.{place_of}
 use Rattle.cb_lsp.specs.steps.Elements.{places_left}
 use Rattle.cb_lsp.specs.steps.Located.{Locating}
-use Rattle.cb_lsp.specs.steps.Meanings.{meaning_left}
+use Rattle.cb_lsp.specs.steps.Nearby.{nearest_left}
 use Rattle.cb_lsp.proofs.symbols.PlacesElements.next.Goals as goal
 
 pub returns : goal.returns
@@ -13,5 +13,5 @@ returns c =
     ∷ places_left (record { places = c.args.self.now.places; rest = c.next.new.self }) =
     search rules in
     front ∙ ap (λ (l : Locating). location_text c.place.result
-    ∷ map (λ t. value_text (place_of l.client l.files t)) (meaning_left c.next.new.self))
+    ∷ map (λ t. value_text (place_of l.client l.files t)) (nearest_left c.next.new.self))
     (sym c.place.ensures.same)
