@@ -34,6 +34,8 @@ DATA = TOP / "crates" / "worked_cases" / "data"
 PATIENCE = 60  # seconds until a run is given up
 LARGE = 20_000  # an input of more bytes is cut into longer pieces
 MOST_BODY = 16_000_000
+# what follows the text of a row that ends with a status
+LAST = {1: b"\n", 2: b"\n\nFor more information, try '--help'.\n"}
 
 NOTES = (TOP / "docs" / "RELEASES.md").read_text()
 VERSION = re.findall(r"^## (\S+)", NOTES, re.MULTILINE)[0]
@@ -138,7 +140,7 @@ def completions(names: list[str], more: bool = False) -> str:
 
 class Row(NamedTuple):
     """A session: its words and files, each message with what is written before the next one is
-    read, and its end. Of a text on wrong words `said` is the beginning."""
+    read, and its end."""
 
     name: str
     words: list[str]
@@ -368,7 +370,7 @@ def row_of(lines: list[str], room: pathlib.Path = pathlib.Path("/w")) -> Row:
         elif word == "end":
             number, _, text = rest.partition(" ")
             ending, status = [], int(number)
-            said = text.encode() + (b"\n" if text and status == 1 else b"")
+            said = text.encode() + LAST[status] if text else b""
         else:
             sent = sent_by(word, rest)
             if sent is not None:
@@ -569,8 +571,6 @@ class Checks:
         pieces = (1, 7) if len(row.given) <= LARGE else (509, 4093)
         for piece in (0, *pieces):
             status, out, said = self.run(row, folder, row.given, piece)
-            if row.status == 2:
-                said = said[: len(row.said)]
             what = f"{row.name}, in pieces of {piece}" if piece else row.name
             self.expect(what, (status, out, said), (row.status, row.out, row.said))
 
