@@ -66,6 +66,10 @@ FILES = {
     "quoted.list": b'"a.c"\n',
     "return.list": b"a.c\r",
     "latin.list": b"a.c\n\xe9.c\n",
+    # names with letters outside ASCII
+    "\u00fc.c": A_C,
+    "\u00e9.list": b"a.c\n",
+    "letters.list": "a.c\n\u00fc.c\n".encode(),
 }
 PLAIN = b"""\
 Ma	a.c	/^int main(void) {$/
@@ -424,6 +428,13 @@ ROWS = [
     refused(["tags", "--files-from", "gap.list"], b": cannot be read"),
     refused(["tags", "--files-from", "quoted.list"], b'"a.c": cannot be read'),
     refused(["tags", "--files-from", "return.list"], b"a.c\\x0d: cannot be read"),
+    # names with letters outside ASCII: a list and a tags file may have them, a source may not
+    Row(["tags", "-x", "--files-from", "\u00e9.list"], LISTING),
+    Row(["tags", "-f", "\u00e9\u65e5.tags", "a.c"], tags=("\u00e9\u65e5.tags", PLAIN)),
+    *(
+        refused([*words, "--files-from", "letters.list"], b"\\xc3\\xbc.c: bad name")
+        for words in (["line"], ["find", "1", "f"], ["tags"], ["lsp"])
+    ),
     # lists that cannot be read
     refused(["line", "--files-from", "none"], b"none: cannot be read"),
     refused(["find", "1", "f", "none.c", "--files-from", "none"], b"none: cannot be read"),
@@ -858,6 +869,7 @@ class Checks:
         (self.folder / "linked.c").symlink_to("a.c")
         row = b"linked.c add 4 static int add(int a, int b) {\n"
         self.expect("a link", self.run(["find", "1", "add", "linked.c"]), (0, row, b""))
+        self.of_no_size()
         uri = "file://" + str(self.folder)
         changed = [{"uri": f"{uri}/{name}", "type": 1} for name in ("pipe.c", "zero.c", "linked.c")]
         messages = (
@@ -878,6 +890,18 @@ class Checks:
         found = self.run(["tags", "-x", "--files-from", "pipe.c"])
         self.expect("a list that is a pipe", found, (0, LISTING, b""))
         feeder.wait(PATIENCE)
+
+    def of_no_size(self):
+        """A regular file that has bytes, and of which the system says that it has none."""
+        version = pathlib.Path("/proc/version")
+        if not version.is_file() or version.stat().st_size:
+            print(f"passed over: a file of no size with bytes, for which {version} is not there")
+            return
+        (self.folder / "version.c").symlink_to(version)
+        text = version.read_bytes()
+        row = b"version.c <unknown> 1 " + text.splitlines()[0].lstrip(b" \t") + b"\n"
+        found = self.run(["find", "4", text.split()[0], "version.c"])
+        self.expect("a file of no size", found, (0, row, b""))
 
     def many(self):
         """4,096 files and one more."""
