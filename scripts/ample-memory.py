@@ -18,6 +18,7 @@ its own message. The exit status is 1 where a check failed.
 from __future__ import annotations
 
 import argparse
+import gc
 import json
 import os
 import pathlib
@@ -702,6 +703,7 @@ def main() -> int:
         "program", nargs="?", default=str(TOP / "bin" / "cbrowse"), metavar="PROGRAM"
     )
     program = str(pathlib.Path(parser.parse_args().program).resolve())
+    gc.disable()  # it looks at millions of ranges again and again, and finds nothing
     with tempfile.TemporaryDirectory() as room:
         os.chmod(room, 0o755)  # so that a run without the rights of root finds it
         checks = Checks(program, pathlib.Path(room).resolve())
