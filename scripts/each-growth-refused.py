@@ -14,7 +14,8 @@ no memory for the files to begin with, or to read the block of a load, the progr
 Undo, redo and questions take no memory.
 
 Jobs: a search, a listing and a tags file, of files that are named or listed. Each is done, or says
-that memory was refused and has written nothing; an old tags file then stays.
+that memory was refused and has written nothing; an old tags file then stays. It stays, too, where
+the permissions of the new one are refused, which growths.c does as well.
 
 A session of an editor, by editor_growths.py: a message or a text whose growth is refused is told,
 and all that follows is as if it had not been sent, or had been too large.
@@ -240,6 +241,23 @@ def each_of_job(growths, program, words, folder):
     raise Wrong(f"{words}: more than {MOST} growths")
 
 
+def modes_of_job(growths, program, folder):
+    """Refuses the permissions of a new tags file: the old one stays, and no draft beside it."""
+    tags = pathlib.Path(folder, "tags")
+    tags.write_bytes(OLD)
+    tags.chmod(0o640)
+    before = set(os.listdir(folder))
+    pipes = {"stdin": subprocess.DEVNULL, "stdout": subprocess.PIPE, "stderr": subprocess.PIPE}
+    os.environ["NO_MODES"] = "1"
+    run = growths.start([program, "tags", "a.c"], 0, cwd=folder, umask=0o077, **pipes)
+    del os.environ["NO_MODES"]
+    out, said = run.communicate(timeout=PATIENCE)
+    if (run.returncode, out, said) != (1, b"", b"cbrowse: tags: cannot be written\n"):
+        raise Wrong(f"permissions that are refused: status {run.returncode}, {out!r}, {said!r}")
+    if tags.read_bytes() != OLD or set(os.listdir(folder)) != before:
+        raise Wrong(f"permissions that are refused: {set(os.listdir(folder)) - before} is left")
+
+
 LISTED = b"m.c\n"  # the list of files of a job
 OLD = b"old\told.c\t1\n"  # its old tags file
 JOBS = (
@@ -277,12 +295,20 @@ def main():
                     lambda words=words: each_of_job(growths, program, words, f"{room}/0"),
                 )
             )
+        checks.append(
+            (
+                "a tags file whose permissions are refused is not made",
+                lambda: modes_of_job(growths, program, f"{room}/0"),
+            )
+        )
         folder = pathlib.Path(room, "editor")
         folder.mkdir()
         checks.append(("a session of an editor", Editing(program, growths, folder).each))
         for name, check in checks:
             try:
-                print(f"{name}: {check()} growths, each refused", flush=True)
+                count = check()
+                met = "" if count is None else f": {count} growths, each refused"
+                print(f"{name}{met}", flush=True)
             except (Wrong, Ended) as wrong:
                 print(f"FAILED: {wrong}", flush=True)
                 failed += 1

@@ -1,5 +1,6 @@
 /* Counts the growths of memory of a program, and refuses one of them. growths.py builds it and
- * preloads it, so the program runs as it was built.
+ * preloads it, so the program runs as it was built. With the variable NO_MODES it also refuses to
+ * give a file other permissions.
  *
  * A growth is a call of malloc or calloc, or one of realloc that asks for more bytes than the block
  * was asked for before. The file that the variable GROWTHS names holds what is to be refused and
@@ -11,6 +12,8 @@
 #include <stdlib.h>
 #include <string.h>
 #include <sys/mman.h>
+#include <sys/stat.h>
+#include <sys/syscall.h>
 #include <unistd.h>
 
 /* The file, in this order; growths.py writes and reads it so. */
@@ -49,6 +52,14 @@ static int is_refused(void)
     shared->refused += 1;
     errno = ENOMEM;
     return 1;
+}
+
+int fchmod(int file, mode_t mode)
+{
+    if (!getenv("NO_MODES"))
+        return (int)syscall(SYS_fchmod, file, mode);
+    errno = EPERM;
+    return -1;
 }
 
 /* The size that a block was asked for stands in the last bytes that the C library gave for it. */
