@@ -14,7 +14,9 @@ no memory for the files to begin with, or to read the block of a load, the progr
 Undo, redo and questions take no memory.
 
 Jobs: a search, a listing and a tags file, of files that are named or listed. Each is done, or says
-that memory was refused and has written nothing; an old tags file then stays.
+that memory was refused and has written nothing; an old tags file then stays. It stays, too, where
+the permissions of the new one are refused; and so does a file that takes its place while the
+program runs. growths.c does both.
 
 A session of an editor, by editor_growths.py: a message or a text whose growth is refused is told,
 and all that follows is as if it had not been sent, or had been too large.
@@ -240,6 +242,41 @@ def each_of_job(growths, program, words, folder):
     raise Wrong(f"{words}: more than {MOST} growths")
 
 
+def not_written(growths, program, folder, variables, **how):
+    """A tags file that growths.c hinders by other means cannot be written, and no draft is left."""
+    before = set(os.listdir(folder)) - set(variables.values())
+    pipes = {"stdin": subprocess.DEVNULL, "stdout": subprocess.PIPE, "stderr": subprocess.PIPE}
+    words = [program, "tags", "a.c"]
+    run = growths.start(words, 0, variables, cwd=folder, **pipes, **how)
+    out, said = run.communicate(timeout=PATIENCE)
+    if (run.returncode, out, said) != (1, b"", b"cbrowse: tags: cannot be written\n"):
+        raise Wrong(f"{variables}: status {run.returncode}, {out!r}, {said!r}")
+    if set(os.listdir(folder)) != before:
+        raise Wrong(f"{variables}: it leaves {set(os.listdir(folder)) - before}")
+
+
+def without_modes(growths, program, folder):
+    """Where the permissions of the new file are refused, the old one stays."""
+    tags = pathlib.Path(folder, "tags")
+    tags.write_bytes(OLD)
+    tags.chmod(0o640)
+    not_written(growths, program, folder, {"NO_MODES": "1"}, umask=0o077)
+    if tags.read_bytes() != OLD:
+        raise Wrong(f"permissions that are refused: the old file is {tags.read_bytes()!r}")
+
+
+def swapped(growths, program, folder):
+    """What takes the place of an old file behind a link just before that is opened stays."""
+    tags, old, other = (pathlib.Path(folder, name) for name in ("tags", "old", "other"))
+    tags.unlink(missing_ok=True)
+    tags.symlink_to("old")
+    old.write_bytes(OLD)
+    other.write_bytes(b"buy milk\n")
+    not_written(growths, program, folder, {"SWAPPED": "other"})
+    if (tags.read_bytes(), old.read_bytes()) != (b"buy milk\n", OLD):
+        raise Wrong(f"a file that is swapped: {tags.read_bytes()!r}, {old.read_bytes()!r}")
+
+
 LISTED = b"m.c\n"  # the list of files of a job
 OLD = b"old\told.c\t1\n"  # its old tags file
 JOBS = (
@@ -277,12 +314,19 @@ def main():
                     lambda words=words: each_of_job(growths, program, words, f"{room}/0"),
                 )
             )
+        for name, check in (
+            ("a tags file whose permissions are refused is not made", without_modes),
+            ("a file in the place of an old tags file stays", swapped),
+        ):
+            checks.append((name, lambda check=check: check(growths, program, f"{room}/0")))
         folder = pathlib.Path(room, "editor")
         folder.mkdir()
         checks.append(("a session of an editor", Editing(program, growths, folder).each))
         for name, check in checks:
             try:
-                print(f"{name}: {check()} growths, each refused", flush=True)
+                count = check()
+                met = "" if count is None else f": {count} growths, each refused"
+                print(f"{name}{met}", flush=True)
             except (Wrong, Ended) as wrong:
                 print(f"FAILED: {wrong}", flush=True)
                 failed += 1

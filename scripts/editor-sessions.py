@@ -34,6 +34,8 @@ DATA = TOP / "crates" / "worked_cases" / "data"
 PATIENCE = 60  # seconds until a run is given up
 LARGE = 20_000  # an input of more bytes is cut into longer pieces
 MOST_BODY = 16_000_000
+# what follows the text of a row that ends with a status
+LAST = {1: b"\n", 2: b"\n\nFor more information, try '--help'.\n"}
 
 NOTES = (TOP / "docs" / "RELEASES.md").read_text()
 VERSION = re.findall(r"^## (\S+)", NOTES, re.MULTILINE)[0]
@@ -138,7 +140,7 @@ def completions(names: list[str], more: bool = False) -> str:
 
 class Row(NamedTuple):
     """A session: its words and files, each message with what is written before the next one is
-    read, and its end. Of a text on wrong words `said` is the beginning."""
+    read, and its end."""
 
     name: str
     words: list[str]
@@ -149,6 +151,7 @@ class Row(NamedTuple):
     disk: dict[pathlib.Path, Optional[bytes]] = {}  # files, and folders without a text
     links: dict[pathlib.Path, tuple[str, str]] = {}  # `link` or `hard`, and what they lead to
     writes: dict[int, dict[pathlib.Path, bytes]] = {}  # those that change before a message
+    shut: tuple[pathlib.Path, ...] = ()  # those that may not be read
 
     @property
     def given(self) -> bytes:
@@ -341,17 +344,21 @@ def row_of(lines: list[str], room: pathlib.Path = pathlib.Path("/w")) -> Row:
     disk: dict[pathlib.Path, Optional[bytes]] = {}
     links: dict[pathlib.Path, tuple[str, str]] = {}
     writes: dict[int, dict[pathlib.Path, bytes]] = {}
+    shut: tuple[pathlib.Path, ...] = ()
     for line in lines[1:]:
         word, _, rest = repeated(line).partition(" ")
         if word in ("", "#"):
             continue
         if word == "words":
-            words += rest.split()
+            # a path in the root is one in the folder that is made for it
+            words += [re.sub(r"^/w(?=/)", root, it) for it in rest.split()]
         elif word in ("file", "copy", "beside"):
             file, _, text = rest.partition(" ")
             is_copy = word == "copy"
             files[file] = (DATA / file.split("/")[-1]).read_bytes() if is_copy else plain(text)
             words += [file] * (word != "beside")
+            if word == "beside":
+                files[file] = re.sub(rb"(?m)^/w(?=/)", root.encode(), files[file])
         elif word == "here":
             disk |= {pathlib.Path(root, file): text for file, text in files.items()}
         elif word in ("disk", "folder"):
@@ -363,19 +370,21 @@ def row_of(lines: list[str], room: pathlib.Path = pathlib.Path("/w")) -> Row:
         elif word == "write":
             file, _, text = rest.partition(" ")
             writes.setdefault(len(turns), {})[pathlib.Path(root, file)] = plain(text)
+        elif word == "shut":
+            shut += (pathlib.Path(root, rest),)
         elif word == "client":
             turns = [] if rest == "none" else [initialize(rest), INITIALIZED]
         elif word == "end":
             number, _, text = rest.partition(" ")
             ending, status = [], int(number)
-            said = text.encode() + (b"\n" if text and status == 1 else b"")
+            said = text.encode() + LAST[status] if text else b""
         else:
             sent = sent_by(word, rest)
             if sent is not None:
                 turns.append((sent, b""))
             else:
                 turns[-1] = (turns[-1][0], turns[-1][1] + written_by(word, rest))
-    return Row(name, words, files, turns + ending, status, said, disk, links, writes)
+    return Row(name, words, files, turns + ending, status, said, disk, links, writes, shut)
 
 
 def rows(room: pathlib.Path) -> list[Row]:
@@ -500,6 +509,12 @@ def bounded(size: int) -> Iterator[None]:
         resource.setrlimit(resource.RLIMIT_FSIZE, (soft, hard))
 
 
+def as_nobody() -> None:
+    """Gives up the rights of root, who may read every file."""
+    if os.geteuid() == 0:
+        os.setuid(65534)
+
+
 class Checks:
     """Runs in a folder of files; what failed."""
 
@@ -534,12 +549,15 @@ class Checks:
         for path, (kind, target) in row.links.items():
             path.unlink(missing_ok=True)
             (os.symlink if kind == "link" else os.link)(path.parent / target, path)
+        for path in row.shut:
+            path.chmod(0)
         return folder
 
     def start(self, row: Row, **how) -> subprocess.Popen:
         self.runs += 1
         folder = how.pop("folder")
-        return subprocess.Popen([self.program, *row.words], cwd=folder, **how)
+        before = as_nobody if row.shut else None
+        return subprocess.Popen([self.program, *row.words], cwd=folder, preexec_fn=before, **how)
 
     def run(self, row: Row, folder: pathlib.Path, given: bytes, piece: int = 0) -> tuple:
         """Status, standard output and standard error. With a size of pieces standard input is a
@@ -569,8 +587,6 @@ class Checks:
         pieces = (1, 7) if len(row.given) <= LARGE else (509, 4093)
         for piece in (0, *pieces):
             status, out, said = self.run(row, folder, row.given, piece)
-            if row.status == 2:
-                said = said[: len(row.said)]
             what = f"{row.name}, in pieces of {piece}" if piece else row.name
             self.expect(what, (status, out, said), (row.status, row.out, row.said))
 
@@ -679,6 +695,7 @@ def main() -> int:
     )
     program = str(pathlib.Path(parser.parse_args().program).resolve())
     with tempfile.TemporaryDirectory() as room:
+        os.chmod(room, 0o755)  # so that a run without the rights of root finds it
         checks = Checks(program, pathlib.Path(room))
         read = rows(pathlib.Path(room, "roots"))
         made = [*made_rows()]

@@ -1,5 +1,7 @@
 /* Counts the growths of memory of a program, and refuses one of them. growths.py builds it and
- * preloads it, so the program runs as it was built.
+ * preloads it, so the program runs as it was built. With the variable NO_MODES it also refuses to
+ * give a file other permissions. With the variable SWAPPED the file of that name takes the place of
+ * one that is opened to be written, as if another program had moved it there just before.
  *
  * A growth is a call of malloc or calloc, or one of realloc that asks for more bytes than the block
  * was asked for before. The file that the variable GROWTHS names holds what is to be refused and
@@ -7,10 +9,14 @@
 #include <errno.h>
 #include <fcntl.h>
 #include <malloc.h>
+#include <stdarg.h>
 #include <stdint.h>
+#include <stdio.h>
 #include <stdlib.h>
 #include <string.h>
 #include <sys/mman.h>
+#include <sys/stat.h>
+#include <sys/syscall.h>
 #include <unistd.h>
 
 /* The file, in this order; growths.py writes and reads it so. */
@@ -49,6 +55,29 @@ static int is_refused(void)
     shared->refused += 1;
     errno = ENOMEM;
     return 1;
+}
+
+int fchmod(int file, mode_t mode)
+{
+    if (!getenv("NO_MODES"))
+        return (int)syscall(SYS_fchmod, file, mode);
+    errno = EPERM;
+    return -1;
+}
+
+int open(const char *path, int flags, ...)
+{
+    const char *swapped = getenv("SWAPPED");
+    mode_t mode = 0;
+    if (flags & O_CREAT) {
+        va_list rest;
+        va_start(rest, flags);
+        mode = va_arg(rest, mode_t);
+        va_end(rest);
+    }
+    if (swapped && (flags & O_ACCMODE) == O_WRONLY && !(flags & O_EXCL))
+        rename(swapped, path);
+    return (int)syscall(SYS_openat, AT_FDCWD, path, flags, mode);
 }
 
 /* The size that a block was asked for stands in the last bytes that the C library gave for it. */

@@ -40,10 +40,10 @@ class Growths:
             file.flush()
             self.shared = mmap.mmap(file.fileno(), FIELDS.size)
 
-    def start(self, words, refuse=0, **how):
+    def start(self, words, refuse=0, variables=None, **how):
         """Starts a program in which the growth of this number is refused, if it is not 0."""
         self.shared[:] = FIELDS.pack(refuse, 0, 0)
-        env = {**os.environ, "LD_PRELOAD": self.library, "GROWTHS": self.path}
+        env = {**os.environ, "LD_PRELOAD": self.library, "GROWTHS": self.path, **(variables or {})}
         return subprocess.Popen(words, env=env, preexec_fn=no_core_files, **how)
 
     @property

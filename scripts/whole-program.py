@@ -5,9 +5,9 @@
     scripts/whole-program.py --not-proved [PROGRAM]     one of `make quick`, whose version says so
 
 `make test` runs it on the program that it built. Each row below is the words, what standard output
-and standard error have, the exit status, and the tags file that is then there. Help and the texts
-on wrong words are compared whole or by their first line. After the rows come devices: a bound on
-the size of a file at each byte, standard input that fails after each byte, and full devices; then
+and standard error have, the exit status, and the tags file that is then there. After the rows come
+devices: a bound on the size of a file at each byte, standard input that fails after each byte, and
+full devices; then
 sources and operands in the place of a tags file, files that it may replace and may not, folders
 and files that may not be written, runs at once, what is not a regular file as an operand, 4,096
 files and one more, and lists as large as they may be. The exit status is 1 where a check failed.
@@ -66,6 +66,10 @@ FILES = {
     "quoted.list": b'"a.c"\n',
     "return.list": b"a.c\r",
     "latin.list": b"a.c\n\xe9.c\n",
+    # names with letters outside ASCII
+    "\u00fc.c": A_C,
+    "\u00e9.list": b"a.c\n",
+    "letters.list": "a.c\n\u00fc.c\n".encode(),
 }
 PLAIN = b"""\
 Ma	a.c	/^int main(void) {$/
@@ -220,8 +224,7 @@ VERSION = b"cbrowse " + re.findall(r"^## (\S+)", NOTES, re.MULTILINE)[0].encode(
 
 
 class Row(NamedTuple):
-    """The words; what is written; and, where one is made, a tags file and its bytes. Of a text on
-    wrong words `said` is the beginning."""
+    """The words; what is written; and, where one is made, a tags file and its bytes."""
 
     words: list[str | bytes]
     out: bytes = b""
@@ -229,7 +232,6 @@ class Row(NamedTuple):
     status: int = 0
     tags: Optional[tuple[str, bytes]] = None
     given: bytes = b":undo\n"
-    begins: bool = False
 
 
 def line(given: bytes, out: bytes, said: bytes = b"", status: int = 0, files: tuple = ()) -> Row:
@@ -240,14 +242,16 @@ def refused(words: list[str], said: bytes, status: int = 1) -> Row:
     return Row(words, b"", b"cbrowse: " + said + b"\n", status)
 
 
-def wrong(words: list[str], said: bytes) -> Row:
-    return Row(words, b"", b"error: " + said, 2, begins=True)
+def wrong(words: list[str | bytes], said: bytes, usage: bytes = b"") -> Row:
+    """Wrong words: what is said of them, and how the program or a command is used, if that is."""
+    usage = usage and b"\n\nUsage: " + usage
+    return Row(words, b"", b"error: " + said + usage + TRY_HELP, 2)
 
 
 def no_bound(option: str, value: str, most: int) -> bytes:
     """Why a value is no bound."""
     why = f"{value} is not in 1..={most}" if value.isdigit() else "invalid digit found in string"
-    return f"invalid value '{value}' for '{option} <N>': {why}\n".encode()
+    return f"invalid value '{value}' for '{option} <N>': {why}".encode()
 
 
 def help_of(words: list[str], said: bytes) -> Row:
@@ -256,9 +260,20 @@ def help_of(words: list[str], said: bytes) -> Row:
 
 BIG_ROW = b"big.c <unknown> 1 \n"
 NO_FIELD, NO_PATTERN = b"field not in this profile", b"no pattern"
+TRY_HELP = b"\n\nFor more information, try '--help'.\n"
 LACKS = b"the following required arguments were not provided:\n"
+LACKS_FILES = LACKS + b"  <FILE>... or --files-from <LIST>"
+LACKS_WIDE = LACKS + b"  --wide"
 TAKEN = b"invalid value '-' for '--files-from <LIST>': standard input has the "
-NO_ROOT = b"invalid value for '--root <DIR>': it must begin with '/'\n"
+NO_ROOT = b"invalid value for '--root <DIR>': it must begin with '/'"
+NO_VALUE = b"a value is required for '%s' but none was supplied"
+UNEXPECTED = b"unexpected argument '%s' found\n\n  tip: to pass '%s' as a value, use '-- %s'"
+UNKNOWN = b"unrecognized subcommand '%s'"
+COMMAND_USAGE = b"cbrowse <COMMAND>"
+LINE_USAGE = b"cbrowse line [OPTIONS] [FILE]..."
+FIND_USAGE = b"cbrowse find [OPTIONS] <NUM> <PATTERN> [FILE]..."
+TAGS_USAGE = b"cbrowse tags [OPTIONS] [FILE]..."
+LSP_USAGE = b"cbrowse lsp [OPTIONS] [FILE]..."
 ROWS = [
     # sessions
     line(b"q\n", b">> "),
@@ -367,7 +382,7 @@ ROWS = [
         files=("--wide", "w.h"),
     ),
     *(
-        wrong([*words, "--prototypes", "a.c"], LACKS + b"  --wide\n")
+        wrong([*words, "--prototypes", "a.c"], LACKS_WIDE)
         for words in (["line"], ["find", "1", "f"], ["tags"])
     ),
     # other bounds
@@ -413,6 +428,13 @@ ROWS = [
     refused(["tags", "--files-from", "gap.list"], b": cannot be read"),
     refused(["tags", "--files-from", "quoted.list"], b'"a.c": cannot be read'),
     refused(["tags", "--files-from", "return.list"], b"a.c\\x0d: cannot be read"),
+    # names with letters outside ASCII: a list and a tags file may have them, a source may not
+    Row(["tags", "-x", "--files-from", "\u00e9.list"], LISTING),
+    Row(["tags", "-f", "\u00e9\u65e5.tags", "a.c"], tags=("\u00e9\u65e5.tags", PLAIN)),
+    *(
+        refused([*words, "--files-from", "letters.list"], b"\\xc3\\xbc.c: bad name")
+        for words in (["line"], ["find", "1", "f"], ["tags"], ["lsp"])
+    ),
     # lists that cannot be read
     refused(["line", "--files-from", "none"], b"none: cannot be read"),
     refused(["find", "1", "f", "none.c", "--files-from", "none"], b"none: cannot be read"),
@@ -420,12 +442,12 @@ ROWS = [
     refused(["tags", "--files-from", "latin.list"], b"latin.list: cannot be read"),
     refused(["tags", "--files-from", ""], b": cannot be read"),
     refused(["line", "--files-from", "./-"], b"./-: cannot be read"),
-    wrong(["line", "--files-from", "-"], TAKEN + b"commands\n"),
-    wrong(["line", "a.c", "--files-from=-"], TAKEN + b"commands\n"),
-    wrong(["lsp", "a.c", "--files-from", "-"], TAKEN + b"messages\n"),
+    wrong(["line", "--files-from", "-"], TAKEN + b"commands"),
+    wrong(["line", "a.c", "--files-from=-"], TAKEN + b"commands"),
+    wrong(["lsp", "a.c", "--files-from", "-"], TAKEN + b"messages"),
     wrong(["lsp", "--root", "w", "a.c"], NO_ROOT),
     wrong(["lsp", "--root", ""], NO_ROOT),
-    wrong(["lsp", "--prototypes", "a.c"], LACKS + b"  --wide\n"),
+    wrong(["lsp", "--prototypes", "a.c"], LACKS_WIDE),
     refused(["find", "5", "f", "--files-from", "none"], NO_FIELD, 2),
     refused(["find", "1", "", "--files-from", "none"], NO_PATTERN, 2),
     # files that cannot be read or loaded, or written
@@ -446,29 +468,44 @@ ROWS = [
     refused(["line", "\u00e9.c"], b"\\xc3\\xa9.c: cannot be read"),
     refused(["tags", "-f", "none/\n", "a.c"], b"none/\\x0a: cannot be written"),
     # words that are wrong, and help
-    wrong([], b"'cbrowse' requires a subcommand"),
-    wrong(["search"], b"unrecognized subcommand 'search'"),
-    wrong(["find"], LACKS + b"  <NUM>\n  <PATTERN>\n"),
-    wrong(["find", "1", "f"], LACKS + b"  <FILE>... or --files-from <LIST>\n"),
-    wrong(["find", "5", "f"], LACKS + b"  <FILE>... or --files-from <LIST>\n"),
-    wrong(["find", "4", "-x", "a.c"], b"unexpected argument '-x' found"),
-    wrong(["line", "-x"], b"unexpected argument '-x' found"),
-    wrong(["tags"], LACKS + b"  <FILE>... or --files-from <LIST>\n"),
-    wrong(["tags", "--files-from"], b"a value is required for '--files-from <LIST>'"),
+    wrong(
+        [],
+        b"'cbrowse' requires a subcommand but one was not provided\n"
+        b"  [subcommands: line, find, tags, lsp, help]",
+        COMMAND_USAGE,
+    ),
+    wrong(["search"], UNKNOWN % b"search", COMMAND_USAGE),
+    wrong(
+        ["lines"],
+        UNKNOWN % b"lines" + b"\n\n  tip: a similar subcommand exists: 'line'",
+        COMMAND_USAGE,
+    ),
+    wrong(
+        ["find"],
+        LACKS + b"  <NUM>\n  <PATTERN>",
+        b"cbrowse find <NUM> <PATTERN> [FILE]...",
+    ),
+    wrong(["find", "1"], LACKS + b"  <PATTERN>", b"cbrowse find <NUM> <PATTERN> [FILE]..."),
+    wrong(["find", "1", "f"], LACKS_FILES),
+    wrong(["find", "5", "f"], LACKS_FILES),
+    *(
+        wrong([*words, "-x", "a.c"], UNEXPECTED % ((b"-x",) * 3), usage)
+        for words, usage in (
+            (["line"], LINE_USAGE),
+            (["find", "4"], FIND_USAGE),
+            (["lsp"], LSP_USAGE),
+        )
+    ),
+    wrong(["tags", "-q", "a.c"], UNEXPECTED % ((b"-q",) * 3), TAGS_USAGE),
+    wrong(["tags"], LACKS_FILES),
+    wrong(["tags", "--files-from"], NO_VALUE % b"--files-from <LIST>"),
+    wrong(["tags", "a.c", "-f"], NO_VALUE % b"-f <TAGSFILE>"),
+    wrong(["lsp", "--root"], NO_VALUE % b"--root <DIR>"),
     wrong(
         ["tags", "--format", "3", "a.c"],
-        b"invalid value '3' for '--format <FORMAT>'\n  [possible values: 1, 2]\n",
+        b"invalid value '3' for '--format <FORMAT>'\n  [possible values: 1, 2]",
     ),
-    wrong(["tags", "-q", "a.c"], b"unexpected argument '-q' found"),
-    wrong(
-        ["tags", "a.c", "-f"], b"a value is required for '-f <TAGSFILE>' but none was supplied\n"
-    ),
-    Row(
-        ["find", "0", b"\xff", "a.c"],
-        b"",
-        b"error: a word is not UTF-8\n\nFor more information, try '--help'.\n",
-        2,
-    ),
+    wrong(["find", "0", b"\xff", "a.c"], b"a word is not UTF-8"),
     help_of(["--help"], HELP),
     help_of(["line", "--help"], HELP_LINE),
     help_of(["find", "--help"], HELP_FIND),
@@ -543,8 +580,6 @@ class Checks:
         path.write_bytes(OLD)
         before = set(os.listdir(self.folder))
         status, out, said = self.run(row.words, row.given)
-        if row.begins:
-            said = said[: len(row.said)]
         self.expect(row.words, (status, out, said), (row.status, row.out, row.said))
         self.expect([*row.words, "the tags file"], path.read_bytes(), text)
         path.unlink()
@@ -834,6 +869,7 @@ class Checks:
         (self.folder / "linked.c").symlink_to("a.c")
         row = b"linked.c add 4 static int add(int a, int b) {\n"
         self.expect("a link", self.run(["find", "1", "add", "linked.c"]), (0, row, b""))
+        self.of_no_size()
         uri = "file://" + str(self.folder)
         changed = [{"uri": f"{uri}/{name}", "type": 1} for name in ("pipe.c", "zero.c", "linked.c")]
         messages = (
@@ -854,6 +890,18 @@ class Checks:
         found = self.run(["tags", "-x", "--files-from", "pipe.c"])
         self.expect("a list that is a pipe", found, (0, LISTING, b""))
         feeder.wait(PATIENCE)
+
+    def of_no_size(self):
+        """A regular file that has bytes, and of which the system says that it has none."""
+        version = pathlib.Path("/proc/version")
+        if not version.is_file() or version.stat().st_size:
+            print(f"passed over: a file of no size with bytes, for which {version} is not there")
+            return
+        (self.folder / "version.c").symlink_to(version)
+        text = version.read_bytes()
+        row = b"version.c <unknown> 1 " + text.splitlines()[0].lstrip(b" \t") + b"\n"
+        found = self.run(["find", "4", text.split()[0], "version.c"])
+        self.expect("a file of no size", found, (0, row, b""))
 
     def many(self):
         """4,096 files and one more."""
