@@ -173,7 +173,7 @@ module _ (text : List ℕ) (place feeds : ℕ) (mark : IsLineMark text place fee
     within = omega (arith, few, length-drop place text, mark.within);
     counted = ap (λ f. f + line_feeds (take n rest)) mark.counted
         ∙ sym (ap line_feeds (take-add place n text)
-            ∙ sum_by-append (λ c. cond (c == 10) 1 0) front (take n rest));
+        ∙ sum_by-append (λ c. cond (c == 10) 1 0) front (take n rest));
   }
 
   -- what stands behind it may change

@@ -1,5 +1,5 @@
 -- The definitions that are read one after another are those that are shown.
-use Rattle.std.proofs.Common.{◌≡◌, ◌∙◌, ◌++◌, ◌&&◌, ◌||◌, ◌==◌, not, cond, refl, sym, ap, subst}
+use Rattle.std.proofs.Common.{◌≡◌, ◌∙◌, ◌++◌, ◌&&◌, ◌||◌, ◌==◌, not, cond, refl, sym, ap}
 use Rattle.std.proofs.Common.{ℕ, zero, suc, Bool, true, false, List, [], ◌∷◌, filter}
 use Rattle.std.proofs.Common.{if◌then◌else◌}
 use Rattle.std.specs.List.{AllByRecursion, list_any}
@@ -12,7 +12,6 @@ use Rattle.cb_lsp.specs.Nearest.{descending, is_in_view, is_members, narrowed, n
 use Rattle.cb_lsp.specs.Nearest.{nearness, shown, shown_of, takes}
 use Rattle.cb_lsp.specs.Nearest as nearest
 use Rattle.cb_lsp.specs.declared.nearest.Kinds.{Kinds}
-use Rattle.cb_lsp.specs.declared.nearest.Nearest.{Nearest}
 use Rattle.cb_lsp.specs.declared.nearest.Sight.{Sight}
 use Rattle.cb_lsp.specs.steps.Nearby.{defined, if_some, left_from, own_or_near, shows}
 use Rattle.cb_lsp.specs.steps.Nearby.{shows_at, viewed}

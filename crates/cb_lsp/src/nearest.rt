@@ -44,10 +44,7 @@ fn takes(kinds: Kinds, kind: Kind) -> bool
         Kinds::Enums => matches!(kind, Kind::Enum),
         Kinds::Tags => matches!(kind, Kind::Struct | Kind::Union | Kind::Enum),
         Kinds::Callables => matches!(kind, Kind::Function | Kind::Macro | Kind::Prototype),
-        Kinds::Ordinary => !matches!(
-            kind,
-            Kind::Member | Kind::Struct | Kind::Union | Kind::Enum
-        ),
+        Kinds::Ordinary => !matches!(kind, Kind::Member | Kind::Struct | Kind::Union | Kind::Enum),
     }
 }
 
@@ -81,18 +78,13 @@ fn first_had(rows: &Definitions<'_, '_>, first: Kinds, others: Kinds) -> Kinds
 fn kinds_at(rows: &Definitions<'_, '_>, space: Option<Space>) -> Kinds
     ensures { result ≡ kinds_at space rows.now }
 {
+    let others = first_had(rows, Kinds::Tags, Kinds::Macros);
     match space {
         None => Kinds::All,
         Some(Space::Member) => first_had(rows, Kinds::Members, Kinds::Macros),
-        Some(Space::Struct) => {
-            first_had(rows, Kinds::Structs, first_had(rows, Kinds::Tags, Kinds::Macros))
-        }
-        Some(Space::Union) => {
-            first_had(rows, Kinds::Unions, first_had(rows, Kinds::Tags, Kinds::Macros))
-        }
-        Some(Space::Enum) => {
-            first_had(rows, Kinds::Enums, first_had(rows, Kinds::Tags, Kinds::Macros))
-        }
+        Some(Space::Struct) => first_had(rows, Kinds::Structs, others),
+        Some(Space::Union) => first_had(rows, Kinds::Unions, others),
+        Some(Space::Enum) => first_had(rows, Kinds::Enums, others),
         Some(Space::Called) => first_had(rows, Kinds::Callables, Kinds::Ordinary),
         Some(Space::Plain) => Kinds::Ordinary,
     }
@@ -206,7 +198,10 @@ impl Sight<'_> {
     fn viewed(self, rows: &Definitions<'_, '_>) -> Self
         ensures { result ≡ viewed self.entry rows.now }
     {
-        let narrow = Sight { viewed: true, ..self };
+        let narrow = Sight {
+            viewed: true,
+            ..self
+        };
         if narrow.has(rows) { narrow } else { self }
     }
 
@@ -214,7 +209,10 @@ impl Sight<'_> {
     fn defined(self, rows: &Definitions<'_, '_>) -> Self
         ensures { result ≡ defined self.entry rows.now }
     {
-        let narrow = Sight { defined: true, ..self };
+        let narrow = Sight {
+            defined: true,
+            ..self
+        };
         if narrow.has(rows) { narrow } else { self }
     }
 
