@@ -1,5 +1,5 @@
 -- Lines behind a mark, and other marks.
-use Rattle.std.proofs.Common.{◌≡◌, ◌∙◌, ◌+◌, ◌-◌, ◌<◌, ◌≤◌, ◌++◌, ℕ, zero, suc, List, [], ◌∷◌}
+use Rattle.std.proofs.Common.{◌≡◌, ◌∙◌, ◌+◌, ◌-◌, ◌≤◌, ◌++◌, ℕ, zero, suc, List, [], ◌∷◌}
 use Rattle.std.proofs.Common.{length, length-append, length-drop, length-take-le, take, drop}
 use Rattle.std.proofs.Common.{cond, map, take-append-drop, refl, sym, ap, subst, arith, inl, inr, true}
 use Rattle.std.proofs.Common.{false, ⊎_elim, zero-add}
@@ -8,8 +8,8 @@ use Rattle.std.specs.List.{slice_index_or, sum_by}
 use Rattle.std.proofs.Math.Seq.{take-add}
 use Rattle.std.proofs.lemmas.Bool.{cond-true, cond-false, cases_Bool}
 use Rattle.std.proofs.lemmas.List.{take-append-le}
-use Rattle.std.proofs.lemmas.List.Sums.{sum_by-append, sum_by-take-drop}
-use Rattle.bstr.specs.Text.{lines_of, line_len, without_terminator}
+use Rattle.std.proofs.lemmas.List.Sums.{sum_by-append}
+use Rattle.bstr.specs.Text.{line_len, without_terminator}
 use Rattle.bstr.proofs.lemmas.LineLemmas.{lines-nil}
 use Rattle.cb_wire.specs.Positions.{line_feeds, line_start, shown_line}
 use Rattle.cb_wire.proofs.Positions.{feeds-no, feeds-yes, shown-suc, start-suc}

@@ -1,4 +1,4 @@
--- The names of what a word means and of what a query finds stand where they say.
+-- The names of what is shown of a word and of what a query finds stand where they say.
 use Rattle.std.proofs.Common.{◌≡◌, ◌∙◌, ◌+◌, ◌-◌, ℕ, List, [], ◌∷◌, ap, arith, cond, drop, Less}
 use Rattle.std.proofs.Common.{length, length-drop, map, refl, subst, sym, Option}
 use Rattle.std.specs.List.{AllByRecursion, flat_map}
@@ -24,11 +24,9 @@ use Rattle.cb_scan.specs.declared.facts.Def.{Def}
 use Rattle.cb_scan.specs.declared.lex.piece.Span.{Span}
 use Rattle.cb_scan.specs.declared.profile.Profile.{Profile}
 use Rattle.cb_scan.specs.lex.Tokens.{bytes_of}
-use Rattle.cb_tags.specs.TagLines.{Tag}
-use Rattle.cb_lsp.specs.Answers.{word_meaning, word_shown}
+use Rattle.cb_lsp.specs.Answers.{word_shown}
 use Rattle.cb_lsp.proofs.NearestLeft.{shown-all}
 use Rattle.cb_names.specs.declared.space.Space.{Space}
-use Rattle.cb_lsp.specs.Meaning.{meaning, or_all, reached, reaches}
 use Rattle.cb_lsp.specs.Ranges.{IsNamedIn, StandsIn, span_of}
 use Rattle.cb_lsp.specs.Searches.{found_by, is_like}
 use Rattle.cb_lsp.specs.declared.symbols.TheConstants.{MOST_SYMBOLS}
@@ -112,22 +110,7 @@ module _ (files : List File) where
         all-flat IsOwn (IsNamedIn files) (desk.file_tags p)
         (λ f is. file-named f is (facts_in p f.bytes).defs (defs-named p f.bytes)) fs own
 
--- ---- what a word means
-reached-have : (P : Tag → Type 0) (ts : List Tag) (from : List ℕ) → AllByRecursion P ts
-    → AllByRecursion P (meaning ts from)
-reached-have P ts from all =
-    or_all-has (reached ts from) (all-filter P (λ (t : Tag). reaches ts from t.file) ts all)
-  where
-    or_all-has : (rs : List Tag) → AllByRecursion P rs → AllByRecursion P (or_all ts rs)
-    or_all-has [] some = all
-    or_all-has (r ∷ rs) some = some
-
-pub meaning-named : (w : World) (name text : List ℕ) (word : Span) → IsAscending w.files
-    → AllByRecursion (IsNamedIn w.files) (word_meaning w name text word)
-meaning-named w name text word order =
-    reached-have (IsNamedIn w.files) (tags_named w.profile (bytes_of text word) w.files) name
-    (named-named w.files w.profile (bytes_of text word) w.files (own-texts w.files order))
-
+-- ---- what is shown of a word
 pub shown-named : (w : World) (name text : List ℕ) (space : Option Space) (word : Span)
     → IsAscending w.files → AllByRecursion (IsNamedIn w.files) (word_shown w name text space word)
 shown-named w name text space word order =

@@ -1,7 +1,7 @@
 -- What notifications and file events lead to.
 use Rattle.std.proofs.Common.{◌≡◌, ◌∙◌, ◌&&◌, ap, sym, subst, refl, ℕ, Bool, true, false, List, []}
 use Rattle.std.proofs.Common.{◌∷◌}
-use Rattle.std.specs.Prelude.{codes, not, Option, None, Some, Result, if◌then◌else◌}
+use Rattle.std.specs.Prelude.{codes, Option, None, Some, Result, if◌then◌else◌}
 use Rattle.std.specs.List.{AllByRecursion}
 use Rattle.std.specs.Option.{option_map}
 use Rattle.json.specs.Find.{get}

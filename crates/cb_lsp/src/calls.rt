@@ -6,7 +6,7 @@ ghost use Rattle.cb_lsp.specs.Calls.{is_callable};
 ghost use Rattle.cb_lsp.specs.steps.Elements.{callables_left, items_left};
 
 use crate::location::Located;
-use crate::meaning::Meaning;
+use crate::nearest::Nearest;
 use cb_scan::Kind;
 use cb_tags::TagRow;
 use cb_wire::{CallItem, Elements};
@@ -18,8 +18,8 @@ fn is_callable(kind: Kind) -> bool
     matches!(kind, Kind::Function | Kind::Macro)
 }
 
-/// The next function or macro that a name means.
-pub(crate) fn next_callable<'a, 'p>(rows: &mut Meaning<'a, 'p>) -> Option<TagRow<'a>>
+/// The next function or macro of those that are shown.
+pub(crate) fn next_callable<'a, 'p>(rows: &mut Nearest<'a, 'p>) -> Option<TagRow<'a>>
     ensures { YieldsFirstBy tag_of callables_left rows.old result rows.new }
 {
     'rows: while let Some(row) = rows.next() {
@@ -30,11 +30,11 @@ pub(crate) fn next_callable<'a, 'p>(rows: &mut Meaning<'a, 'p>) -> Option<TagRow
     None
 }
 
-/// The functions and macros that a name means.
+/// The functions and macros that are shown of a name.
 #[derive(Drop)]
 pub(crate) struct CallItems<'a, 'p> {
     pub(crate) places: Located<'a>,
-    pub(crate) rest: Meaning<'a, 'p>,
+    pub(crate) rest: Nearest<'a, 'p>,
 }
 
 impl<'a, 'p> Elements for CallItems<'a, 'p> {

@@ -10,7 +10,7 @@ ghost use Rattle.cb_wire.specs.declared.position.Position.{Position};
 ghost use Rattle.cb_wire.specs.declared.units.Encoding.{Encoding};
 ghost use Rattle.cb_wire.specs.Positions.{place};
 ghost use Rattle.cb_desk.specs.World.{IsAscending, World};
-ghost use Rattle.cb_lsp.specs.Answers.{word_meaning, word_references, word_shown};
+ghost use Rattle.cb_lsp.specs.Answers.{word_references, word_shown};
 ghost use Rattle.cb_lsp.specs.Calls.{calls_reached};
 ghost use Rattle.cb_lsp.specs.Editors.{EditorsCountUnits, EditorsStayInSync};
 ghost use Rattle.cb_lsp.specs.Exact.{RenamesAreExact};
@@ -66,14 +66,12 @@ pub fn ranges_are_in_order()
 {}
 
 /// Where an answer has the range of a name, that name stands there: the word at a position; the name
-/// of each definition that a word means, that is shown of it or that a query finds, and each use and
-/// each call of a name that is asked for, in the text that its file has. `names_stand_in_text` of `cb_scan` says the same of
+/// of each definition that is shown of a word or that a query finds, and each use and each call of a
+/// name that is asked for, in the text that its file has. `names_stand_in_text` of `cb_scan` says the same of
 /// the definitions of a text.
 pub fn ranges_are_of_names()
     ensures word { (e : Encoding) (text : List ℕ) (p : Position) (word : Span)
         → word_at text (place e text p) ≡ Some word → IsNameOf text word }
-    ensures meaning { (w : World) (name text : List ℕ) (word : Span) → IsAscending w.files
-        → AllByRecursion (IsNamedIn w.files) (word_meaning w name text word) }
     ensures shown { (w : World) (name text : List ℕ) (space : Option Space) (word : Span)
         → IsAscending w.files
         → AllByRecursion (IsNamedIn w.files) (word_shown w name text space word) }

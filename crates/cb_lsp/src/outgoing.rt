@@ -26,11 +26,12 @@ use crate::answers::put_list;
 use crate::calls::next_callable;
 use crate::columns::Positions;
 use crate::location::{Forms, Located};
-use crate::meaning::Meaning;
+use crate::nearest::Nearest;
 use crate::place::bytes_of;
 use crate::refresh::FileNames;
 use crate::written::{put_null, put_refusal};
 use cb_desk::Desk;
+use cb_names::Space;
 use cb_scan::{Call, Source};
 use cb_tags::{Sink, TagRow, WriteFault};
 use cb_wire::{Calls, Elements, Encoding, Id, Position, Range, Ranged, Side, place_of_position};
@@ -217,7 +218,7 @@ fn sort_by_first_call(groups: &mut Vec<CalleeGroup<'_, '_>>) -> Result<(), Alloc
     Ok(())
 }
 
-/// Appends each function and macro that a called name means in a file, up to the most.
+/// Appends each function and macro that is shown of a called name in a file, up to the most.
 fn push_called<'a, 'p>(
     desk: &'a Desk,
     file: &[u8],
@@ -229,9 +230,9 @@ fn push_called<'a, 'p>(
         (called_rows called.old.items
         ++ called_as desk.entry.now.timeline.present file.now (group_in group.now))) }
 {
-    let _files = desk.files();
     let calls = group.calls;
-    let mut rest = Meaning::new(desk.definitions(group.first.name), file);
+    let rows = desk.definitions(group.first.name);
+    let mut rest = Nearest::new(rows, file, Some(Space::Called));
     'rows: while called.len() < MOST_CALLED {
         match next_callable(&mut rest) {
             Some(row) => called.push(CalledRow { row, calls })?,
@@ -241,7 +242,7 @@ fn push_called<'a, 'p>(
     Ok(())
 }
 
-/// What the called names mean in a file.
+/// What is shown of the called names in a file.
 fn called_of<'a, 'p>(
     alloc: Global,
     desk: &'a Desk,

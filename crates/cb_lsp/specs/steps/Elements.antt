@@ -24,7 +24,7 @@ use Rattle.cb_lsp.specs.declared.hover.Hover.{Hover}
 use Rattle.cb_lsp.specs.declared.hover.Hovers.{Hovers}
 use Rattle.cb_lsp.specs.declared.local.LocalMarks.{LocalMarks}
 use Rattle.cb_lsp.specs.declared.local.LocalUses.{LocalUses}
-use Rattle.cb_lsp.specs.declared.meaning.Meaning.{Meaning}
+use Rattle.cb_lsp.specs.declared.nearest.Nearest.{Nearest}
 use Rattle.cb_lsp.specs.declared.references.UsePlaces.{UsePlaces}
 use Rattle.cb_lsp.specs.declared.symbols.FileDefs.{FileDefs}
 use Rattle.cb_lsp.specs.declared.symbols.FlatSymbols.{FlatSymbols}
@@ -35,7 +35,6 @@ use Rattle.cb_lsp.specs.declared.symbols.Places.{Places}
 use Rattle.cb_lsp.specs.declared.symbols.SessionSymbols.{SessionSymbols}
 use Rattle.cb_lsp.specs.declared.symbols.TreeSymbols.{TreeSymbols}
 use Rattle.cb_lsp.specs.steps.Located.{client_in}
-use Rattle.cb_lsp.specs.steps.Meanings.{meaning_left}
 use Rattle.cb_lsp.specs.steps.Nearby.{nearest_left}
 use Rattle.cb_lsp.specs.steps.References.{references_left}
 
@@ -111,8 +110,8 @@ folds_left f = map value_text (folded f.source.now f.rest.now)
 abbrev pub hovers_left : Hovers → List (List ℕ)
 hovers_left h = map (λ t. escape (hover_text t)) (nearest_left h.rest)
 
-abbrev pub callables_left : Meaning → List Tag
-callables_left m = callables (meaning_left m)
+abbrev pub callables_left : Nearest → List Tag
+callables_left n = callables (nearest_left n)
 
 abbrev pub items_left : CallItems → List (List ℕ)
 items_left i =

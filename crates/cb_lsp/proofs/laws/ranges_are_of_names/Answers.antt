@@ -1,14 +1,11 @@
 use Rattle.cb_lsp.proofs.NamedCalls.{reached-named}
-use Rattle.cb_lsp.proofs.NamedTags.{found-named, meaning-named, shown-named}
+use Rattle.cb_lsp.proofs.NamedTags.{found-named, shown-named}
 use Rattle.cb_lsp.proofs.NamedUses.{references-named}
 use Rattle.cb_lsp.proofs.NamedWords.{word-named}
 use Rattle.cb_lsp.proofs.laws.ranges_are_of_names.Goals as goal
 
 pub returns-clause-word : goal.returns-clause-word
 returns-clause-word c = word-named
-
-pub returns-clause-meaning : goal.returns-clause-meaning
-returns-clause-meaning c = meaning-named
 
 pub returns-clause-shown : goal.returns-clause-shown
 returns-clause-shown c = shown-named

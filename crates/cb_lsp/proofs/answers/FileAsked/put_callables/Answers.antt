@@ -10,7 +10,7 @@ use Rattle.cb_lsp.specs.Answers.{list_of, some_of}
 use Rattle.cb_lsp.specs.Calls.{callables, item_of}
 use Rattle.cb_lsp.specs.steps.Elements.{callables_left}
 use Rattle.cb_lsp.specs.steps.Located.{Locating, client_in}
-use Rattle.cb_lsp.specs.steps.Meanings.{meaning_left}
+use Rattle.cb_lsp.specs.steps.Nearby.{nearest_left}
 use Rattle.cb_lsp.proofs.Listed.{map-map}
 use Rattle.cb_lsp.proofs.answers.FileAsked.put_callables.Goals as goal
 
@@ -22,12 +22,12 @@ pub returns-in-Some : goal.returns-in-Some
 returns-in-Some g c =
     let f = c.args.self.now in
     let item = item_of (client_in f.forms) f.desk.now.timeline.present.files in
-    let found = callables (meaning_left c.meaning-rest.result) in
+    let found = callables (nearest_left c.shown-rest.result) in
     let same : found ≡ tag_of c.in-Some.field-0 ∷ callables_left c.next_callable.new.rows =
     ap callables (sym c.again-first.ensures) ∙ c.in-Some.ensures in
     subst (λ ts. Puts c.args.out.now c.put_list.new.out c.put_list.result
     (frame (value_text (result_reply (id_json c.args.id) (some_of (map item (callables ts)))))))
-    c.meaning-rest.ensures
+    c.shown-rest.ensures
     (subst (λ j. Puts c.args.out.now c.put_list.new.out c.put_list.result
     (frame (value_text (result_reply (id_json c.args.id) j))))
     (listed (map item found) _ _ (ap (map item) same))
@@ -42,5 +42,5 @@ returns-in-None g c =
     subst (λ ts. Puts c.args.out.now c.put_null.new.out c.put_null.result
     (frame (value_text (result_reply (id_json c.args.id) (some_of (map item ts))))))
     (sym (ap callables (sym c.again-first.ensures) ∙ c.in-None.ensures.0)
-    ∙ ap callables c.meaning-rest.ensures)
+    ∙ ap callables c.shown-rest.ensures)
     c.put_null.ensures

@@ -13,7 +13,7 @@ returns-in-Some g c =
     let f = c.args.self.now in
     subst (λ o. Puts c.args.out.now c.put_callables.new.out c.put_callables.result
     (frame (value_text (result_reply (id_json c.args.id) (callables_at (client_in f.forms)
-    f.desk.now.timeline.present f.name.now f.source.now o)))))
+    f.desk.now.timeline.present f.name.now f.source.now c.args.space o)))))
     (sym c.in-Some.is) c.put_callables.ensures
 
 pub returns-in-None : goal.returns-in-None
@@ -21,5 +21,5 @@ returns-in-None g c =
     let f = c.args.self.now in
     subst (λ o. Puts c.args.out.now c.put_null.new.out c.put_null.result
     (frame (value_text (result_reply (id_json c.args.id) (callables_at (client_in f.forms)
-    f.desk.now.timeline.present f.name.now f.source.now o)))))
+    f.desk.now.timeline.present f.name.now f.source.now c.args.space o)))))
     (sym c.in-None.is) c.put_null.ensures
