@@ -841,23 +841,19 @@ class Server:
         }
         return named, private
 
-    def meant(self, file, name):
-        """The definitions that a name means in a file."""
-        named, private = self.named(name)
-        if file in private:
-            return [it for it in named if it.file == file]
-        return [it for it in named if it.file not in private] or named
-
     def shown(self, file, text, place, word):
         """The definitions that are shown of a word, in the order in which they are."""
         if word is None:
             return []
-        named, _ = self.named(text[word[0] : word[1]])
-        members = [it for it in named if it.file == file and it.definition.kind == b"m"]
-        if any(self.is_word_of(it, word) for it in members):
-            kinds = KINDS_OF_SPACES["member"]
-        else:
-            kinds = KINDS_OF_SPACES[space_at(text, place)]
+        name = text[word[0] : word[1]]
+        members = [it for it in self.named(name)[0] if it.definition.kind == b"m"]
+        if any(it.file == file and self.is_word_of(it, word) for it in members):
+            return self.shown_in(file, name, "member")
+        return self.shown_in(file, name, space_at(text, place))
+
+    def shown_in(self, file, name, space):
+        """The same of a name in a space."""
+        named, kinds = self.named(name)[0], KINDS_OF_SPACES[space]
         wanted = next((one for one in kinds if of_kinds(named, one)), kinds[-1])
         found = of_kinds(named, wanted)
         if wanted == b"m":
@@ -1132,12 +1128,12 @@ class Server:
         word = word_at(text, place)
         if file is None or word is None or local_at(text, place):
             return b"null"
-        meant = self.callable(file, text[word[0] : word[1]])
-        return listed(self.item(it) for it in meant) if meant else b"null"
+        found = of_kinds(self.shown(file, text, place, word), b"fd")
+        return listed(self.item(it) for it in found) if found else b"null"
 
     def callable(self, file, name):
-        """The functions and macros that a name means in a file."""
-        return [it for it in self.meant(file, name) if it.definition.kind in (b"f", b"d")]
+        """The functions and macros that are shown of a called name in a file."""
+        return of_kinds(self.shown_in(file, name, "called"), b"fd")
 
     def item_of(self, method, params):
         """The name, the file and, for outgoing calls, the position of an item; no file where there
