@@ -43,7 +43,7 @@ WELCOME = (
     '{"capabilities":{"positionEncoding":"%s",'
     '"textDocumentSync":{"openClose":true,"change":2,"save":true},"hoverProvider":true,'
     '"completionProvider":{},'
-    '"definitionProvider":true,"referencesProvider":true,'
+    '"definitionProvider":true,"declarationProvider":true,"referencesProvider":true,'
     '"documentHighlightProvider":true,"documentSymbolProvider":true,'
     '"workspaceSymbolProvider":true,"renameProvider":%s,'
     '"callHierarchyProvider":true,"foldingRangeProvider":true},'

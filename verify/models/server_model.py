@@ -33,7 +33,7 @@ WELCOME = (
     b'{"capabilities":{"positionEncoding":"%s",'
     b'"textDocumentSync":{"openClose":true,"change":2,"save":true},"hoverProvider":true,'
     b'"completionProvider":{},'
-    b'"definitionProvider":true,"referencesProvider":true,'
+    b'"definitionProvider":true,"declarationProvider":true,"referencesProvider":true,'
     b'"documentHighlightProvider":true,"documentSymbolProvider":true,'
     b'"workspaceSymbolProvider":true,"renameProvider":%s,'
     b'"callHierarchyProvider":true,"foldingRangeProvider":true},'

@@ -24,7 +24,8 @@ use Rattle.cb_lsp.specs.Documents.{Document, Looked, Oracle, later}
 use Rattle.cb_lsp.specs.Messages.{Serving, asked_reply, reply_unless, result_unless}
 use Rattle.cb_lsp.specs.Questions.{Asked, folds, in_file, incoming, outgoing, rename}
 use Rattle.cb_lsp.specs.Questions.{workspace_symbols}
-use Rattle.cb_lsp.specs.LocalRenames.{renamed_at, renamed_name}
+use Rattle.cb_lsp.specs.LocalRenames.{renamed_at, renamed_there}
+use Rattle.cb_lsp.specs.Parameters.{parameter_there}
 use Rattle.cb_lsp.specs.Renames.{Answered, no_definition}
 use Rattle.cb_lsp.specs.Renames.{without_reading}
 use Rattle.cb_lsp.specs.Searches.{found_by}
@@ -173,8 +174,8 @@ pub puts-renamed-there : {A E : Type 0} (finds : Looked → Type 0) (no_memory :
     → here ≡ inside.work.world → held ≡ inside.work.world → ds ≡ inside.work.documents
     → c ≡ s.client
     → Replies finds (reply_unless no_memory id (let at = place c.encoding t.bytes p in
-    renamed_name o c (record { world = held; documents = ds }) name t.bytes new at
-    (local_at t.bytes at))) before after r
+    renamed_there o c (record { world = held; documents = ds }) name t.bytes new at
+    (parameter_there (facts_in held.profile t.bytes).defs t.bytes at))) before after r
     → Replies finds (reply_unless no_memory id
     (renamed_at o s.client s.work p new (Some name))) before after r
 puts-renamed-there finds no_memory o s inside here held ds c name t p new id before after r is found
@@ -182,7 +183,8 @@ puts-renamed-there finds no_memory o s inside here held ds c name t p new id bef
     let file = there here.profile here.files name t found in
     let told : Client → World → List Document → List ℕ → Answered =
     λ k w d b. let at = place k.encoding b p in
-    renamed_name o k (record { world = w; documents = d }) name b new at (local_at b at) in
+    renamed_there o k (record { world = w; documents = d }) name b new at
+    (parameter_there (facts_in w.profile b).defs b at) in
     let w = inside.work.world in
     let d = inside.work.documents in
     let named : told inside.client w d (text_of_file w.files name)
@@ -214,7 +216,8 @@ puts-renamed-missing finds o s inside here name p new id before after r is found
     ∙ ap (λ (x : Serving). x.work.world) is)) ∙ missing here.profile here.files name found in
     let same : without_reading (Err no_definition) ≡ renamed_at o s.client s.work p new (Some name) =
     ap (λ b. if b then (let at = place s.client.encoding text p in
-    renamed_name o s.client s.work name text new at (local_at text at))
+    renamed_there o s.client s.work name text new at
+    (parameter_there (facts_in w.profile text).defs text at))
     else without_reading (Err no_definition))
     (sym none) in
     subst (λ a. Replies finds (reply_with id a) before after r) same (put, tt)

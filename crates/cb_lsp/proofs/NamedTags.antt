@@ -1,6 +1,6 @@
 -- The names of what is shown of a word and of what a query finds stand where they say.
 use Rattle.std.proofs.Common.{◌≡◌, ◌∙◌, ◌+◌, ◌-◌, ℕ, List, [], ◌∷◌, ap, arith, cond, drop, Less}
-use Rattle.std.proofs.Common.{length, length-drop, map, refl, subst, sym, Option}
+use Rattle.std.proofs.Common.{Bool, length, length-drop, map, refl, subst, sym, Option}
 use Rattle.std.specs.List.{AllByRecursion, flat_map}
 use Rattle.std.specs.Str.{bytes_eq}
 use Rattle.std.proofs.lemmas.List.{length-take}
@@ -111,10 +111,11 @@ module _ (files : List File) where
         (λ f is. file-named f is (facts_in p f.bytes).defs (defs-named p f.bytes)) fs own
 
 -- ---- what is shown of a word
-pub shown-named : (w : World) (name text : List ℕ) (space : Option Space) (word : Span)
-    → IsAscending w.files → AllByRecursion (IsNamedIn w.files) (word_shown w name text space word)
-shown-named w name text space word order =
-    shown-all (IsNamedIn w.files) name _ (tags_named w.profile (bytes_of text word) w.files)
+pub shown-named : (w : World) (name text : List ℕ) (space : Option Space) (ds : Bool)
+    (word : Span) → IsAscending w.files
+    → AllByRecursion (IsNamedIn w.files) (word_shown w name text space ds word)
+shown-named w name text space ds word order =
+    shown-all (IsNamedIn w.files) name _ ds (tags_named w.profile (bytes_of text word) w.files)
     (named-named w.files w.profile (bytes_of text word) w.files (own-texts w.files order))
 
 -- ---- what a query finds

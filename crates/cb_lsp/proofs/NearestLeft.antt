@@ -6,15 +6,14 @@ use Rattle.std.specs.List.{AllByRecursion, list_any}
 use Rattle.std.specs.Str.{bytes_eq}
 use Rattle.std.proofs.lemmas.List.{append-nil}
 use Rattle.cb_scan.proofs.WithinLemmas.{all-append, all-filter}
-use Rattle.cb_scan.specs.Profiles.{is_declaration}
 use Rattle.cb_tags.specs.TagLines.{Tag}
-use Rattle.cb_lsp.specs.Nearest.{descending, is_in_view, is_members, narrowed, nearest_first}
-use Rattle.cb_lsp.specs.Nearest.{nearness, shown, shown_of, takes}
+use Rattle.cb_lsp.specs.Nearest.{descending, is_in_view, is_members, is_preferred, narrowed}
+use Rattle.cb_lsp.specs.Nearest.{nearest_first, nearness, shown, shown_of, takes}
 use Rattle.cb_lsp.specs.Nearest as nearest
 use Rattle.cb_lsp.specs.declared.nearest.Kinds.{Kinds}
 use Rattle.cb_lsp.specs.declared.nearest.Sight.{Sight}
-use Rattle.cb_lsp.specs.steps.Nearby.{defined, if_some, left_from, own_or_near, shows}
-use Rattle.cb_lsp.specs.steps.Nearby.{shows_at, viewed}
+use Rattle.cb_lsp.specs.steps.Nearby.{if_some, left_from, own_or_near, shows}
+use Rattle.cb_lsp.specs.steps.Nearby.{shows_at, sided, viewed}
 
 -- ---- two tests are one
 
@@ -117,8 +116,8 @@ module _ (s : Sight) (t : Tag) where
   abbrev view-passes : Bool
   view-passes = not s.viewed || is_in_view s.from.now t
 
-  abbrev defined-passes : Bool
-  defined-passes = not s.defined || not (is_declaration t.kind)
+  abbrev side-passes : Bool
+  side-passes = not s.sided || is_preferred s.declarations t.kind
 
   abbrev own-passes : Bool
   own-passes = not s.own || bytes_eq t.file s.from.now
@@ -126,22 +125,22 @@ module _ (s : Sight) (t : Tag) where
   shows-viewed : s.viewed ≡ false → shows (record s { viewed = true }) t
       ≡ (shows s t && is_in_view s.from.now t)
   shows-viewed is =
-      put-second kind-passes (is_in_view s.from.now t) defined-passes own-passes
-      ∙ ap (λ b. (kind-passes && (not b || is_in_view s.from.now t) && defined-passes && own-passes)
+      put-second kind-passes (is_in_view s.from.now t) side-passes own-passes
+      ∙ ap (λ b. (kind-passes && (not b || is_in_view s.from.now t) && side-passes && own-passes)
       && is_in_view s.from.now t) (sym is)
 
-  shows-defined : s.defined ≡ false → shows (record s { defined = true }) t
-      ≡ (shows s t && not (is_declaration t.kind))
-  shows-defined is =
-      put-third kind-passes view-passes (not (is_declaration t.kind)) own-passes
-      ∙ ap (λ b. (kind-passes && view-passes && (not b || not (is_declaration t.kind)) && own-passes)
-      && not (is_declaration t.kind)) (sym is)
+  shows-sided : s.sided ≡ false → shows (record s { sided = true }) t
+      ≡ (shows s t && is_preferred s.declarations t.kind)
+  shows-sided is =
+      put-third kind-passes view-passes (is_preferred s.declarations t.kind) own-passes
+      ∙ ap (λ b. (kind-passes && view-passes && (not b || is_preferred s.declarations t.kind)
+      && own-passes) && is_preferred s.declarations t.kind) (sym is)
 
   shows-own : s.own ≡ false → shows (record s { own = true }) t
       ≡ (shows s t && bytes_eq t.file s.from.now)
   shows-own is =
-      put-last kind-passes view-passes defined-passes (bytes_eq t.file s.from.now)
-      ∙ ap (λ b. (kind-passes && view-passes && defined-passes && (not b || bytes_eq t.file s.from.now))
+      put-last kind-passes view-passes side-passes (bytes_eq t.file s.from.now)
+      ∙ ap (λ b. (kind-passes && view-passes && side-passes && (not b || bytes_eq t.file s.from.now))
       && bytes_eq t.file s.from.now) (sym is)
 
 -- ---- what is left at first
@@ -201,7 +200,7 @@ left-chosen s ts own near =
 -- one that asks for the kinds alone
 pub record IsWide (s : Sight) : Type 0 where
   pub viewed : s.viewed ≡ false
-  pub defined : s.defined ≡ false
+  pub sided : s.sided ≡ false
   pub own : s.own ≡ false
   pub near : s.near ≡ false
 
@@ -211,16 +210,16 @@ seen-wide s wide ts =
     filter-alike (shows s) (λ (t : Tag). takes s.kinds t.kind)
     (λ t.
     let kind = takes s.kinds t.kind in
-    ap (λ b. kind && (not b || is_in_view s.from.now t) && defined-passes s t && own-passes s t)
+    ap (λ b. kind && (not b || is_in_view s.from.now t) && side-passes s t && own-passes s t)
     wide.viewed
-    ∙ ap (λ b. kind && true && (not b || not (is_declaration t.kind)) && own-passes s t)
-    wide.defined
+    ∙ ap (λ b. kind && true && (not b || is_preferred s.declarations t.kind) && own-passes s t)
+    wide.sided
     ∙ ap (λ b. kind && true && true && (not b || bytes_eq t.file s.from.now)) wide.own
     ∙ and-true (kind && true && true) ∙ and-true (kind && true) ∙ and-true kind) ts
 
 module _ (s : Sight) (wide : IsWide s) (ts : List Tag) where
   pub left-wide : left_from s ts
-      ≡ shown_of s.from.now true (filter (λ (t : Tag). takes s.kinds t.kind) ts)
+      ≡ shown_of s.from.now true s.declarations (filter (λ (t : Tag). takes s.kinds t.kind) ts)
   left-wide =
       ap (λ b. left s (if b then 16 else 0) ts) wide.near ∙ left-alone s wide.near ts
       ∙ seen-wide s wide ts
@@ -228,28 +227,30 @@ module _ (s : Sight) (wide : IsWide s) (ts : List Tag) where
   abbrev in-view : Sight
   in-view = viewed s ts
 
-  abbrev that-define : Sight
-  that-define = defined in-view ts
+  abbrev on-side : Sight
+  on-side = sided in-view ts
 
-  pub left-shown : left_from (own_or_near that-define ts) ts
-      ≡ shown_of s.from.now false (filter (λ (t : Tag). takes s.kinds t.kind) ts)
+  pub left-shown : left_from (own_or_near on-side ts) ts
+      ≡ shown_of s.from.now false s.declarations (filter (λ (t : Tag). takes s.kinds t.kind) ts)
   left-shown =
       let v = record s { viewed = true } in
-      let d = record in-view { defined = true } in
+      let d = record in-view { sided = true } in
       let from = s.from.now in
-      let view-defined = stays (λ x. x.defined) v s false wide.defined wide.defined ts in
+      let view-sided = stays (λ x. x.sided) v s false wide.sided wide.sided ts in
+      let view-side = stays (λ x. x.declarations) v s s.declarations refl refl ts in
       let view-own = stays (λ x. x.own) v s false wide.own wide.own ts in
       let view-near = stays (λ x. x.near) v s false wide.near wide.near ts in
       let view-from = stays (λ x. x.from.now) v s from refl refl ts in
       let own = stays (λ x. x.own) d in-view false view-own view-own ts in
       let near = stays (λ x. x.near) d in-view false view-near view-near ts in
       let at = stays (λ x. x.from.now) d in-view from view-from view-from ts in
-      let is-defined = λ (t : Tag). not (is_declaration t.kind) in
-      left-chosen that-define ts own near
-      ∙ ap (λ f. nearest.own_or_near f (seen that-define ts)) at
+      let on = λ (b : Bool) (t : Tag). is_preferred b t.kind in
+      left-chosen on-side ts own near
+      ∙ ap (λ f. nearest.own_or_near f (seen on-side ts)) at
       ∙ ap (nearest.own_or_near from)
-      (narrow in-view d is-defined (λ t. shows-defined in-view t view-defined) ts
-      ∙ ap (narrowed is-defined)
+      (narrow in-view d (on in-view.declarations) (λ t. shows-sided in-view t view-sided) ts
+      ∙ ap (λ b. narrowed (on b) (seen in-view ts)) view-side
+      ∙ ap (narrowed (on s.declarations))
       (narrow s v (is_in_view from) (λ t. shows-viewed s t wide.viewed) ts
       ∙ ap (narrowed (is_in_view from)) (seen-wide s wide ts)))
 
@@ -299,15 +300,15 @@ module _ (P : Tag → Type 0) where
         | false ↦ descending-all (λ n t. nearness from t.file == n) 17 ts all
       ]
 
-  shown_of-all : (from : List ℕ) (members : Bool) (ts : List Tag) → AllByRecursion P ts
-      → AllByRecursion P (shown_of from members ts)
-  shown_of-all from true ts all = all
-  shown_of-all from false ts all =
-      own-all from _ (narrowed-all (λ (t : Tag). not (is_declaration t.kind)) _
+  shown_of-all : (from : List ℕ) (members ds : Bool) (ts : List Tag) → AllByRecursion P ts
+      → AllByRecursion P (shown_of from members ds ts)
+  shown_of-all from true ds ts all = all
+  shown_of-all from false ds ts all =
+      own-all from _ (narrowed-all (λ (t : Tag). is_preferred ds t.kind) _
       (narrowed-all (is_in_view from) ts all))
 
-  pub shown-all : (from : List ℕ) (ks : Kinds) (ts : List Tag) → AllByRecursion P ts
-      → AllByRecursion P (shown from ks ts)
-  shown-all from ks ts all =
-      shown_of-all from (is_members ks) _
+  pub shown-all : (from : List ℕ) (ks : Kinds) (ds : Bool) (ts : List Tag) → AllByRecursion P ts
+      → AllByRecursion P (shown from ks ds ts)
+  shown-all from ks ds ts all =
+      shown_of-all from (is_members ks) ds _
       (all-filter P (λ (t : Tag). takes ks t.kind) ts all)

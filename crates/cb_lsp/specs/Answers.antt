@@ -1,5 +1,5 @@
 -- The answers to questions, as values of JSON.
-use Rattle.std.specs.Prelude.{ℕ, Bool, ◌&&◌, ◌==◌, List, [], ◌∷◌, map, Option, None}
+use Rattle.std.specs.Prelude.{ℕ, Bool, false, true, ◌&&◌, ◌==◌, List, [], ◌∷◌, map, Option, None}
 use Rattle.std.specs.Prelude.{Some, take, option_map}
 use Rattle.std.specs.Prelude.{Result, Ok, Err}
 use Rattle.std.specs.Prelude.{if◌then◌else◌}
@@ -12,6 +12,7 @@ use Rattle.cb_names.specs.SpaceAt.{space_at}
 use Rattle.cb_names.specs.declared.space.Space.{Space}
 use Rattle.cb_names.specs.declared.space.Space.TheVariants as name_space
 use Rattle.cb_names.specs.Locals.{LocalName}
+use Rattle.cb_names.specs.Parameters.{ParameterName}
 use Rattle.cb_names.specs.declared.local.LocalUse.{LocalUse}
 use Rattle.cb_scan.specs.declared.facts.Def.{Def}
 use Rattle.cb_scan.specs.declared.facts.Include.{Include}
@@ -39,6 +40,7 @@ use Rattle.cb_lsp.specs.Highlights.{highlight}
 use Rattle.cb_lsp.specs.Hovers.{hover_at_place, hover_of, hover_texts}
 use Rattle.cb_lsp.specs.Locals.{definition_places, local_mark, token_place, uses_wanted}
 use Rattle.cb_lsp.specs.Nearest.{is_member, kinds_at, shown}
+use Rattle.cb_lsp.specs.Parameters.{parameter_there}
 use Rattle.cb_lsp.specs.Places.{range_of}
 use Rattle.cb_lsp.specs.Outgoing.{outgoing_calls}
 use Rattle.cb_lsp.specs.Questions.{Asked, folds, in_file, incoming, outgoing, rename}
@@ -48,7 +50,7 @@ use Rattle.cb_lsp.specs.declared.question.FileQuestion.TheVariants.{At, Completi
 use Rattle.cb_lsp.specs.declared.question.PlaceQuestion.{PlaceQuestion}
 use Rattle.cb_lsp.specs.declared.question.PlaceQuestion.TheVariants.{Definition, Hover, Highlights}
 use Rattle.cb_lsp.specs.declared.question.PlaceQuestion.TheVariants.{References, PrepareRename}
-use Rattle.cb_lsp.specs.declared.question.PlaceQuestion.TheVariants.{Callables}
+use Rattle.cb_lsp.specs.declared.question.PlaceQuestion.TheVariants.{Callables, Declaration}
 use Rattle.cb_lsp.specs.References.{references}
 use Rattle.cb_lsp.specs.LocalRenames.{renamed_at}
 use Rattle.cb_lsp.specs.Renames.{Answered, Unrenamed, if_renamable, prepared}
@@ -69,16 +71,18 @@ some_of (j ∷ js) = list_of (j ∷ js)
 
 -- ---- of a word of a file
 
--- the definitions that are shown of a word, where its name has this space
-abbrev pub word_shown : World → (name text : List ℕ) → Option Space → Span → List Tag
-word_shown w name text space word =
-    let ts = tags_named w.profile (bytes_of text word) w.files in shown name (kinds_at space ts) ts
+-- the definitions that are shown of a word, where its name has this space: declarations first, or not
+abbrev pub word_shown : World → (name text : List ℕ) → Option Space → (declarations : Bool) → Span
+    → List Tag
+word_shown w name text space declarations word =
+    let ts = tags_named w.profile (bytes_of text word) w.files in
+    shown name (kinds_at space ts) declarations ts
 
-abbrev pub places_of_word : Client → World → (name text : List ℕ) → Option Space → Option Span
-    → Json
-places_of_word c w name text space None = list_of []
-places_of_word c w name text space (Some word) =
-    list_of (map (place_of c w.files) (word_shown w name text space word))
+abbrev pub places_of_word : Client → World → (name text : List ℕ) → Option Space
+    → (declarations : Bool) → Option Span → Json
+places_of_word c w name text space declarations None = list_of []
+places_of_word c w name text space declarations (Some word) =
+    list_of (map (place_of c w.files) (word_shown w name text space declarations word))
 
 -- what a hover shows of a word
 abbrev pub hover_over : Client → List ℕ → Span → List Tag → Json
@@ -89,7 +93,7 @@ hover_over c text word (t ∷ ts) =
 abbrev pub hover_at : Client → World → (name text : List ℕ) → Option Space → Option Span → Json
 hover_at c w name text space None = null
 hover_at c w name text space (Some word) =
-    hover_over c text word (word_shown w name text space word)
+    hover_over c text word (word_shown w name text space false word)
 
 -- the uses of a word, as ranges that are marked
 abbrev pub highlights_of : Encoding → (text : List ℕ) → (uses : List Use) → Option Span → Json
@@ -114,7 +118,7 @@ references_of_word c w name text declarations (Some word) =
 abbrev pub callables_at : Client → World → (name text : List ℕ) → Option Space → Option Span → Json
 callables_at c w name text space None = null
 callables_at c w name text space (Some word) =
-    some_of (map (item_of c w.files) (callables (word_shown w name text space word)))
+    some_of (map (item_of c w.files) (callables (word_shown w name text space false word)))
 
 -- ---- at a place of a file
 
@@ -133,6 +137,7 @@ space_there ds text at (Some word) =
 abbrev pub space_asked : List Def → (text : List ℕ) → (place : ℕ) → Option Span → PlaceQuestion
     → Option Space
 space_asked ds text at word Definition = space_there ds text at word
+space_asked ds text at word Declaration = space_there ds text at word
 space_asked ds text at word Hover = space_there ds text at word
 space_asked ds text at word Callables = space_there ds text at word
 space_asked ds text at word _ = None
@@ -140,7 +145,10 @@ space_asked ds text at word _ = None
 -- a question about a word, where its name has this space
 abbrev pub word_answer : Client → World → (name text : List ℕ) → Option Space → Option Span
     → PlaceQuestion → Json
-word_answer c w name text space word Definition = places_of_word c w name text space word
+word_answer c w name text space word Definition =
+    places_of_word c w name text space false word
+word_answer c w name text space word Declaration =
+    places_of_word c w name text space true word
 word_answer c w name text space word Hover = hover_at c w name text space word
 word_answer c w name text space word Highlights =
     highlights_of c.encoding text (facts_in w.profile text).uses word
@@ -169,6 +177,8 @@ abbrev pub local_answer : Client → (name text : List ℕ) → LocalName → Op
     → Json
 local_answer c name text own word Definition =
     list_of (definition_places c.root c.encoding name text own.definition)
+local_answer c name text own word Declaration =
+    list_of (definition_places c.root c.encoding name text own.definition)
 local_answer c name text own word Hover = local_hover_at c name text word own.definition
 local_answer c name text own word Highlights =
     list_of (map (local_mark c.encoding text) own.uses)
@@ -186,9 +196,19 @@ name_answer c w name text None space word question =
 name_answer c w name text (Some own) space word question =
     local_answer c name text own word question
 
--- the header at a place, where a definition is asked for
+-- one about a name at a place of a file with these definitions: a parameter of a macro, or another one
+abbrev pub named_answer : Client → World → (name text : List ℕ) → List Def → (at : ℕ)
+    → Option ParameterName → PlaceQuestion → Json
+named_answer c w name text ds at (Some own) question =
+    local_answer c name text own.name (word_at text at) question
+named_answer c w name text ds at None question =
+    let word = word_at text at in
+    name_answer c w name text (local_at text at) (space_asked ds text at word question) word question
+
+-- the header at a place, where a definition or a declaration is asked for
 abbrev pub header_asked : List Include → (place : ℕ) → PlaceQuestion → Option Span
 header_asked is at Definition = header_at is at
+header_asked is at Declaration = header_at is at
 header_asked is at _ = None
 
 -- one about what stands at a place: a header, of which the files are told that it means, or a name
@@ -197,9 +217,8 @@ abbrev pub place_answer : Client → World → (name text : List ℕ) → (place
 place_answer c w name text at (Some header) question =
     list_of (map (file_place c) (header_files w.files name (bytes_of text header)))
 place_answer c w name text at None question =
-    let word = word_at text at in
-    name_answer c w name text (local_at text at)
-    (space_asked (facts_in w.profile text).defs text at word question) word question
+    let ds = (facts_in w.profile text).defs in
+    named_answer c w name text ds at (parameter_there ds text at) question
 
 -- ---- of a file
 

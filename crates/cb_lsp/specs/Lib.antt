@@ -29,6 +29,7 @@ pub mod Names
 pub mod Nearest
 pub mod NearestExamples
 pub mod Outgoing
+pub mod Parameters
 pub mod Params
 pub mod PlaceExamples
 pub mod Places

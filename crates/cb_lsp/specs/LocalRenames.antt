@@ -1,5 +1,5 @@
--- How a name that means something in its function alone is renamed, or why it is not; and what is
--- renamed at a position.
+-- How a name that means something in its function alone is renamed, or a parameter of a macro, or why
+-- it is not; and what is renamed at a position.
 use Rattle.std.specs.Prelude.{ℕ, ◌+◌, ◌-◌, Bool, true, false, ◌&&◌, ◌||◌, ◌==◌, nat_eq, nat_le, nat_lt}
 use Rattle.std.specs.Prelude.{not, List, [], ◌∷◌, codes, count_by, filter, find, map, slice_index_or, take}
 use Rattle.std.specs.Prelude.{Option, None, Some, Err, if◌then◌else◌}
@@ -15,6 +15,7 @@ use Rattle.cb_names.specs.FunctionNames.{FunctionNames, function_names}
 use Rattle.cb_names.specs.Locals.{LocalName}
 use Rattle.cb_names.specs.Macros.{takes_member}
 use Rattle.cb_names.specs.Meanings.{local_at}
+use Rattle.cb_names.specs.Parameters.{ParameterName}
 use Rattle.cb_names.specs.declared.local.LocalUse.{LocalUse}
 use Rattle.cb_names.specs.declared.names.Arguments.{Arguments}
 use Rattle.cb_scan.specs.Lines.{line_of}
@@ -36,6 +37,7 @@ use Rattle.cb_wire.specs.Uris.{uri_of}
 use Rattle.cb_lsp.specs.Alike.{is_counted_alike}
 use Rattle.cb_lsp.specs.Clients.{Client}
 use Rattle.cb_lsp.specs.Documents.{Oracle, Work, is_open}
+use Rattle.cb_lsp.specs.Parameters.{parameter_there}
 use Rattle.cb_lsp.specs.Places.{range_of}
 use Rattle.cb_lsp.specs.Renames.{Answered, Check, Unrenamed, bad_name, check, from_outside}
 use Rattle.cb_lsp.specs.Renames.{if_renamable, in_arguments, in_macro, macro_or_type, no_definition}
@@ -142,11 +144,11 @@ is_beside_odd text s =
 -- ---- why it is not renamed
 
 -- by the names alone
-abbrev pub unless_names : World → (text : List ℕ) → FunctionNames → List Use → (old new : List ℕ)
+abbrev pub unless_names : World → (text : List ℕ) → Span → List Use → (old new : List ℕ)
     → Option Unrenamed
-unless_names w text f us old new =
+unless_names w text extent us old new =
     option_or (some_if (is_bad old new) bad_name)
-    (option_or (some_if (is_used_in text f.extent us new) used_already)
+    (option_or (some_if (is_used_in text extent us new) used_already)
     (some_if (is_taken w new || is_taken w old) macro_or_type))
 
 -- by what the rules do not see of the function, or cannot tell of the name
@@ -205,12 +207,21 @@ unless_bytes name text us =
 abbrev pub unless_local : World → (name text : List ℕ) → FunctionNames → TextFacts → (old new : List ℕ)
     → LocalName → Option Unrenamed
 unless_local w name text f facts old new own =
-    option_or (unless_names w text f facts.uses old new)
+    option_or (unless_names w text f.extent facts.uses old new)
     (option_or (unless_macro w text f old new)
     (option_or (unless_seen name text f facts.uses old)
     (option_or (unless_given w text (callers (touched text f own old) f.arguments) f.lone)
     (option_or (unless_included text f.extent facts.includes)
     (unless_bytes name text own.uses)))))
+
+-- a parameter of a macro, which takes its arguments before any other macro sees them
+abbrev pub unless_parameter : World → (name text : List ℕ) → List Use → (old new : List ℕ)
+    → ParameterName → Option Unrenamed
+unless_parameter w name text us old new p =
+    option_or (unless_names w text p.extent us old new)
+    (option_or (unless_arguments w text
+    (callers (map (λ (u : LocalUse). u.name) p.name.uses) p.arguments))
+    (unless_bytes name text p.name.uses))
 
 -- ---- its edits
 
@@ -251,13 +262,29 @@ renamed_local o c w name text new own (Some s) (Some f) =
     (unless_local w.world name text f (facts_in w.world.profile text) (bytes_of text s) new own)
 renamed_local o c w name text new own _ _ = without_reading (Err no_definition)
 
--- what stands at a place of the file of this name and text
+-- a parameter of a macro with a definition
+abbrev pub renamed_parameter : Oracle → Client → Work → (name text new : List ℕ) → ParameterName
+    → Option Span → Answered
+renamed_parameter o c w name text new p (Some s) =
+    edited_unless o c w name text new p.name.uses (unless_parameter w.world name text
+    (facts_in w.world.profile text).uses (bytes_of text s) new p)
+renamed_parameter o c w name text new p None = without_reading (Err no_definition)
+
+-- what stands at a place of the file of this name and text, and is no parameter of a macro
 abbrev pub renamed_name : Oracle → Client → Work → (name text new : List ℕ) → (at : ℕ)
     → Option LocalName → Answered
 renamed_name o c w name text new at None =
     renamed_word o c w name text new (if_renamable w.world text (word_at text at))
 renamed_name o c w name text new at (Some own) =
     renamed_local o c w name text new own own.definition (function_names text at)
+
+-- what stands there, or a parameter
+abbrev pub renamed_there : Oracle → Client → Work → (name text new : List ℕ) → (at : ℕ)
+    → Option ParameterName → Answered
+renamed_there o c w name text new at (Some p) =
+    renamed_parameter o c w name text new p p.name.definition
+renamed_there o c w name text new at None =
+    renamed_name o c w name text new at (local_at text at)
 
 -- the same at a position of a file of this name, if there is such a file
 abbrev pub renamed_at : Oracle → Client → Work → Position → (new : List ℕ) → Option (List ℕ)
@@ -267,5 +294,6 @@ renamed_at o c w p new (Some name) =
     let text = text_of_file w.world.files name in
     let at = place c.encoding text p in
     if has_file w.world.files name
-    then renamed_name o c w name text new at (local_at text at)
+    then renamed_there o c w name text new at
+    (parameter_there (facts_in w.world.profile text).defs text at)
     else without_reading (Err no_definition)

@@ -121,14 +121,19 @@ own_or_near from ts =
     let own = λ (t : Tag). bytes_eq t.file from in
     if list_any own ts then filter own ts else nearest_first from ts
 
+-- where declarations are asked for, these come before what defines; else what defines before these
+abbrev pub is_preferred : (declarations : Bool) → Kind → Bool
+is_preferred true k = is_declaration k
+is_preferred false k = not (is_declaration k)
+
 -- of the definitions of a name those that are shown in a file: members all; else those in view, or
--- all where none is, and of these no declaration where something is defined
-abbrev pub shown_of : (from : List ℕ) → (members : Bool) → List Tag → List Tag
-shown_of from true ts = ts
-shown_of from false ts =
-    own_or_near from (narrowed (λ (t : Tag). not (is_declaration t.kind))
+-- all where none is, and of these those that are preferred, or all where none is
+abbrev pub shown_of : (from : List ℕ) → (members declarations : Bool) → List Tag → List Tag
+shown_of from true declarations ts = ts
+shown_of from false declarations ts =
+    own_or_near from (narrowed (λ (t : Tag). is_preferred declarations t.kind)
     (narrowed (is_in_view from) ts))
 
-abbrev pub shown : (from : List ℕ) → Kinds → List Tag → List Tag
-shown from ks ts =
-    shown_of from (is_members ks) (filter (λ (t : Tag). takes ks t.kind) ts)
+abbrev pub shown : (from : List ℕ) → Kinds → (declarations : Bool) → List Tag → List Tag
+shown from ks declarations ts =
+    shown_of from (is_members ks) declarations (filter (λ (t : Tag). takes ks t.kind) ts)

@@ -51,31 +51,42 @@ unfolding apart
 apart_at_once = refl
 
 -- the nearest comes first, whatever the order of names
-pub nearest_first : shown (codes "x/y/z.c") kinds.Ordinary (function_in_a ∷ function_below_y ∷ [])
+pub nearest_first : shown (codes "x/y/z.c") kinds.Ordinary false (function_in_a ∷ function_below_y ∷ [])
     ≡ function_below_y ∷ function_in_a ∷ []
 unfolding apart descending is_private
 nearest_first = refl
 
 -- its own alone; and what is private to others is not shown beside what is not
-pub its_own : shown (codes "x/c.c") kinds.Ordinary (function_in_a ∷ private_in_c ∷ [])
+pub its_own : shown (codes "x/c.c") kinds.Ordinary false (function_in_a ∷ private_in_c ∷ [])
     ≡ private_in_c ∷ []
 unfolding apart descending is_private
 its_own = refl
 
-pub not_of_others : shown (codes "x/a.h") kinds.Ordinary
+pub not_of_others : shown (codes "x/a.h") kinds.Ordinary false
     (function_in_a ∷ private_in_c ∷ macro_in_d ∷ []) ≡ function_in_a ∷ []
 unfolding apart descending is_private
 not_of_others = refl
 
 -- a declaration beside a definition, and alone
-pub no_declaration : shown (codes "x/h.h") kinds.All (function_in_a ∷ prototype_in_h ∷ [])
+pub no_declaration : shown (codes "x/h.h") kinds.All false (function_in_a ∷ prototype_in_h ∷ [])
     ≡ function_in_a ∷ []
 unfolding apart descending is_private
 no_declaration = refl
 
-pub a_declaration : shown (codes "x/h.h") kinds.All (prototype_in_h ∷ []) ≡ prototype_in_h ∷ []
+pub a_declaration : shown (codes "x/h.h") kinds.All false (prototype_in_h ∷ [])
+    ≡ prototype_in_h ∷ []
 unfolding apart descending is_private
 a_declaration = refl
+
+-- where declarations are asked for, they are shown before what they declare
+pub declarations : shown (codes "x/a.c") kinds.All true (function_in_a ∷ prototype_in_h ∷ [])
+    ≡ prototype_in_h ∷ []
+unfolding apart descending is_private
+declarations = refl
+
+pub no_declarations : shown (codes "x/a.c") kinds.All true (function_in_a ∷ []) ≡ function_in_a ∷ []
+unfolding apart descending is_private
+no_declarations = refl
 
 -- a plain name is no member, and behind an accessor it is one
 pub no_member : kinds_at (Some Plain) (member_in_h ∷ []) ≡ kinds.Ordinary

@@ -1,5 +1,5 @@
 -- What functions and macros call.
-use Rattle.std.specs.Prelude.{ℕ, ◌==◌, ◌&&◌, ◌-◌, Bool, List, [], ◌∷◌, filter, length, map, take}
+use Rattle.std.specs.Prelude.{false, ℕ, ◌==◌, ◌&&◌, ◌-◌, Bool, List, [], ◌∷◌, filter, length, map, take}
 use Rattle.std.specs.Prelude.{Some, if◌then◌else◌}
 use Rattle.std.specs.List.{flat_map}
 use Rattle.std.specs.Str.{bytes_eq}
@@ -78,7 +78,7 @@ Called = Tag × List Callee
 abbrev pub called_as : World → (file : List ℕ) → Group → List Called
 called_as w file g =
     let ts = tags_named w.profile g.0.name w.files in
-    map (λ (t : Tag). (t, g.1)) (callables (shown file (kinds_at (Some name_space.Called) ts) ts))
+    map (λ (t : Tag). (t, g.1)) (callables (shown file (kinds_at (Some name_space.Called) ts) false ts))
 
 -- calls up to so many, and what is called up to so many calls in all
 abbrev pub cut_called : (most : ℕ) → Called → Called

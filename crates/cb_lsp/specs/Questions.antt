@@ -11,7 +11,7 @@ use Rattle.cb_lsp.specs.declared.question.FileQuestion.TheVariants.{At, Completi
 use Rattle.cb_lsp.specs.declared.question.PlaceQuestion.{PlaceQuestion}
 use Rattle.cb_lsp.specs.declared.question.PlaceQuestion.TheVariants.{Definition, Hover, Highlights}
 use Rattle.cb_lsp.specs.declared.question.PlaceQuestion.TheVariants.{References, PrepareRename}
-use Rattle.cb_lsp.specs.declared.question.PlaceQuestion.TheVariants.{Callables}
+use Rattle.cb_lsp.specs.declared.question.PlaceQuestion.TheVariants.{Callables, Declaration}
 use Rattle.cb_lsp.specs.declared.question.Unasked.{Unasked}
 use Rattle.cb_lsp.specs.declared.question.Unasked.TheVariants.{UnknownMethod, BadParameters}
 
@@ -85,6 +85,8 @@ asked_by method params =
     then or_bad (option_map (λ uri. in_file uri Symbols) (uri_in params))
     else (if bytes_eq method (codes "textDocument/definition")
     then or_bad (at_place Definition (uri_in params) (position_in params))
+    else (if bytes_eq method (codes "textDocument/declaration")
+    then or_bad (at_place Declaration (uri_in params) (position_in params))
     else (if bytes_eq method (codes "textDocument/hover")
     then or_bad (at_place Hover (uri_in params) (position_in params))
     else (if bytes_eq method (codes "textDocument/documentHighlight")
@@ -97,4 +99,4 @@ asked_by method params =
     then or_bad (at_place Callables (uri_in params) (position_in params))
     else (if bytes_eq method (codes "textDocument/completion")
     then or_bad (completing (uri_in params) (position_in params))
-    else asked_of_files_by method params)))))))
+    else asked_of_files_by method params))))))))

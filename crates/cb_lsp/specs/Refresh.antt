@@ -22,7 +22,7 @@ use Rattle.cb_lsp.specs.Words.{word_at}
 use Rattle.cb_lsp.specs.declared.question.FileQuestion.{FileQuestion}
 use Rattle.cb_lsp.specs.declared.question.FileQuestion.TheVariants.{At}
 use Rattle.cb_lsp.specs.declared.question.PlaceQuestion.TheVariants.{Callables, Definition, Hover}
-use Rattle.cb_lsp.specs.declared.question.PlaceQuestion.TheVariants.{References}
+use Rattle.cb_lsp.specs.declared.question.PlaceQuestion.TheVariants.{Declaration, References}
 
 -- ---- what is asked about
 
@@ -47,6 +47,7 @@ about name uses = record { name = name; uses = uses }
 
 abbrev pub sought_at : Client → World → (uri : List ℕ) → FileQuestion → Sought
 sought_at c w uri (At p Definition) = about (word_in_uri c w uri p) false
+sought_at c w uri (At p Declaration) = about (word_in_uri c w uri p) false
 sought_at c w uri (At p Hover) = about (word_in_uri c w uri p) false
 sought_at c w uri (At p Callables) = about (word_in_uri c w uri p) false
 sought_at c w uri (At p (References declarations)) = about (word_in_uri c w uri p) true

@@ -20,7 +20,8 @@ ghost use Rattle.cb_wire.specs.Values.{items_of, value_text};
 ghost use Rattle.cb_wire.specs.declared.list.TheConstants.{MOST_ELEMENTS};
 ghost use Rattle.cb_lsp.specs.Answers.{answer_in, callables_at, header_asked, highlights_of};
 ghost use Rattle.cb_lsp.specs.Answers.{hover_at, hover_over, is_member_at, list_of, name_answer};
-ghost use Rattle.cb_lsp.specs.Answers.{place_answer, space_asked, space_there, word_shown};
+ghost use Rattle.cb_lsp.specs.Answers.{named_answer, place_answer, space_asked, space_there};
+ghost use Rattle.cb_lsp.specs.Answers.{word_shown};
 ghost use Rattle.cb_lsp.specs.Answers.{places_of_word, references_of_word, some_of, word_answer};
 ghost use Rattle.cb_lsp.specs.Answers.{word_references};
 ghost use Rattle.cb_lsp.specs.Calls.{callables, item_of};
@@ -28,6 +29,7 @@ ghost use Rattle.cb_lsp.specs.Completions.{completions_before, completions_of};
 ghost use Rattle.cb_lsp.specs.Headers.{folder_of, header_files};
 ghost use Rattle.cb_lsp.specs.Hovers.{hover_of, hover_shown};
 ghost use Rattle.cb_lsp.specs.Messages.{result_unless};
+ghost use Rattle.cb_lsp.specs.Parameters.{parameter_there};
 ghost use Rattle.cb_lsp.specs.Renames.{if_renamable, is_at, is_some_tag, prepared};
 ghost use Rattle.cb_lsp.specs.Searches.{found_by};
 ghost use Rattle.cb_lsp.specs.Symbols.{file_place, file_symbol, session_symbol};
@@ -57,14 +59,14 @@ use crate::word::{word_at, word_before};
 use crate::written::{put_null, put_refusal};
 use cb_desk::{Desk, Format};
 use cb_index::TagSpot;
-use cb_names::{Space, local_at, space_at};
-use cb_scan::{Def, Facts, Kind, ScanError, Source, Span};
+use cb_names::{Code, Space};
+use cb_scan::{Def, Facts, Kind, Source, Span};
 use cb_tags::{Sink, WriteFault};
 use cb_wire::{
     Elements, Id, MOST_ELEMENTS, Part, Position, Range, list_in_memory, place_of_position,
     put_list_result, put_range_result, put_result,
 };
-use std::alloc::Global;
+use std::alloc::{AllocError, Global};
 use std::io::Write;
 
 /// A file that is asked about, what scanning it gives, and what the client takes.
@@ -270,13 +272,14 @@ impl<'a> FileAsked<'a> {
         }
     }
 
-    /// The definitions that are shown of a word of the file, where its name has this space.
-    fn shown<'p>(&'p self, word: Span, space: Option<Space>) -> Nearest<'a, 'p>
+    /// The definitions that are shown of a word of the file, where its name has this space:
+    /// declarations first, or not.
+    fn shown<'p>(&'p self, word: Span, space: Option<Space>, declarations: bool) -> Nearest<'a, 'p>
         ensures { nearest_left result ≡ word_shown self.now.desk.now.timeline.present
-            self.now.name.now self.now.source.now space word }
+            self.now.name.now self.now.source.now space declarations word }
     {
         let rows = self.desk.definitions(bytes_of(self.source, word));
-        Nearest::new(rows, self.name, space)
+        Nearest::new(rows, self.name, space, declarations)
     }
 
     /// Writes where the definitions that are shown of a word are.
@@ -286,10 +289,11 @@ impl<'a> FileAsked<'a> {
         id: Id<'_>,
         word: Option<Span>,
         space: Option<Space>,
+        declarations: bool,
     ) -> Result<(), WriteFault>
         ensures { Puts out.old out.new result (frame (value_text (result_reply (id_json id.entry)
             (places_of_word (client_in self.now.forms) self.now.desk.now.timeline.present
-            self.now.name.now self.now.source.now space word)))) }
+            self.now.name.now self.now.source.now space declarations word)))) }
     {
         match word {
             Some(word) => put_list(
@@ -297,7 +301,7 @@ impl<'a> FileAsked<'a> {
                 id,
                 Places {
                     places: Located::new(self.forms, self.desk),
-                    rest: self.shown(word, space),
+                    rest: self.shown(word, space, declarations),
                 },
             ),
             None => put_list(
@@ -322,9 +326,9 @@ impl<'a> FileAsked<'a> {
         ensures { Puts out.old out.new result (frame (value_text (result_reply (id_json id.entry)
             (hover_over (client_in self.now.forms) self.now.source.now word (word_shown
             self.now.desk.now.timeline.present self.now.name.now self.now.source.now space
-            word))))) }
+            false word))))) }
     {
-        let rest = self.shown(word, space);
+        let rest = self.shown(word, space, false);
         let mut first = rest.again();
         match first.next() {
             Some(_) => {
@@ -509,9 +513,9 @@ impl<'a> FileAsked<'a> {
             (some_of (map (item_of (client_in self.now.forms)
             self.now.desk.now.timeline.present.files) (callables (word_shown
             self.now.desk.now.timeline.present self.now.name.now self.now.source.now space
-            word))))))) }
+            false word))))))) }
     {
-        let rest = self.shown(word, space);
+        let rest = self.shown(word, space, false);
         let mut first = rest.again();
         match next_callable(&mut first) {
             Some(_) => put_list(
@@ -576,7 +580,8 @@ impl<'a> FileAsked<'a> {
             self.now.name.now self.now.source.now space word question)))) }
     {
         match question {
-            PlaceQuestion::Definition => self.put_places(out, id, word, space),
+            PlaceQuestion::Definition => self.put_places(out, id, word, space, false),
+            PlaceQuestion::Declaration => self.put_places(out, id, word, space, true),
             PlaceQuestion::Hover => self.put_hover(out, id, word, space),
             PlaceQuestion::Highlights => self.put_highlights(out, id, word),
             PlaceQuestion::References(declarations) => {
@@ -594,38 +599,78 @@ impl<'a> FileAsked<'a> {
         self.facts.defs().iter().any(|def| is_member_at(word, def))
     }
 
-    /// The name space of the name at a place, where this word stands.
-    fn space_there(&self, place: u32, word: Option<Span>) -> Result<Option<Space>, ScanError>
+    /// The name space of the name at a place of the code, where this word stands.
+    fn space_there(
+        &self,
+        code: &Code<'_>,
+        place: u32,
+        word: Option<Span>,
+    ) -> Result<Option<Space>, AllocError>
+        requires { code.now ≡ self.now.source.now }
         ensures { IfOk result (λ found. found ≡ space_there self.now.facts.now.defs
             self.now.source.now place word) }
     {
         match word {
             Some(word) if self.names_member(word) => Ok(Some(Space::Member)),
-            _ => space_at(self.alloc, self.source, place),
+            _ => code.space_at(self.alloc, place),
         }
     }
 
     /// The same where a question is about definitions.
     fn space_asked(
         &self,
+        code: &Code<'_>,
         place: u32,
         word: Option<Span>,
         question: PlaceQuestion,
-    ) -> Result<Option<Space>, ScanError>
+    ) -> Result<Option<Space>, AllocError>
+        requires { code.now ≡ self.now.source.now }
         ensures { IfOk result (λ found. found ≡ space_asked self.now.facts.now.defs
             self.now.source.now place word question) }
     {
         match question {
-            PlaceQuestion::Definition => self.space_there(place, word),
-            PlaceQuestion::Hover => self.space_there(place, word),
-            PlaceQuestion::Callables => self.space_there(place, word),
+            PlaceQuestion::Definition => self.space_there(code, place, word),
+            PlaceQuestion::Declaration => self.space_there(code, place, word),
+            PlaceQuestion::Hover => self.space_there(code, place, word),
+            PlaceQuestion::Callables => self.space_there(code, place, word),
             _ => Ok(None),
         }
     }
 
-    /// Answers a question about the name at a place, by what it means in its function alone, if it
-    /// does.
-    fn put_about_name<W: Write>(
+    /// Answers a question about the name at a place of the code, by what it means in its function
+    /// alone, if it does.
+    fn put_about_code<W: Write>(
+        &self,
+        out: &mut Sink<W>,
+        id: Id<'_>,
+        code: &Code<'_>,
+        place: u32,
+        question: PlaceQuestion,
+    ) -> Result<(), WriteFault>
+        requires code { code.now ≡ self.now.source.now }
+        requires place { place ≤ length self.now.source.now }
+        requires facts { self.now.facts.now
+            ≡ facts_in self.now.desk.now.timeline.present.profile self.now.source.now }
+        ensures { (no_memory : Bool) × Puts out.old out.new result (frame (value_text
+            (result_unless no_memory (id_json id.entry) (name_answer (client_in self.now.forms)
+            self.now.desk.now.timeline.present self.now.name.now self.now.source.now
+            (local_at self.now.source.now place) (space_asked self.now.facts.now.defs
+            self.now.source.now place (word_at self.now.source.now place) question)
+            (word_at self.now.source.now place) question)))) }
+    {
+        let word = word_at(self.source, place as usize);
+        match code.local_at(self.alloc, place) {
+            Ok(None) => match self.space_asked(code, place, word, question) {
+                Ok(space) => self.put_about_word(out, id, word, space, question),
+                Err(_) => put_refusal(out, id),
+            },
+            Ok(Some(own)) => self.put_about_local(out, id, &own, word, question),
+            Err(_) => put_refusal(out, id),
+        }
+    }
+
+    /// The same, where the code is not read yet.
+    fn put_about_text<W: Write>(
         &self,
         out: &mut Sink<W>,
         id: Id<'_>,
@@ -642,23 +687,46 @@ impl<'a> FileAsked<'a> {
             self.now.source.now place (word_at self.now.source.now place) question)
             (word_at self.now.source.now place) question)))) }
     {
-        let word = word_at(self.source, place as usize);
-        match local_at(self.alloc, self.source, place) {
-            Ok(None) => match self.space_asked(place, word, question) {
-                Ok(space) => self.put_about_word(out, id, word, space, question),
-                Err(_) => put_refusal(out, id),
-            },
-            Ok(Some(own)) => self.put_about_local(out, id, &own, word, question),
+        match Code::new(self.alloc, self.source) {
+            Ok(code) => self.put_about_code(out, id, &code, place, question),
             Err(_) => put_refusal(out, id),
         }
     }
 
-    /// The header at a place, where a definition is asked for.
+    /// The same, or about the parameter of a macro.
+    fn put_about_name<W: Write>(
+        &self,
+        out: &mut Sink<W>,
+        id: Id<'_>,
+        place: u32,
+        question: PlaceQuestion,
+    ) -> Result<(), WriteFault>
+        requires place { place ≤ length self.now.source.now }
+        requires facts { self.now.facts.now
+            ≡ facts_in self.now.desk.now.timeline.present.profile self.now.source.now }
+        ensures { (no_memory : Bool) × Puts out.old out.new result (frame (value_text
+            (result_unless no_memory (id_json id.entry) (named_answer (client_in self.now.forms)
+            self.now.desk.now.timeline.present self.now.name.now self.now.source.now
+            self.now.facts.now.defs place (parameter_there self.now.facts.now.defs
+            self.now.source.now place) question)))) }
+    {
+        match self.parameter_there(place) {
+            Ok(None) => self.put_about_text(out, id, place, question),
+            Ok(Some(own)) => {
+                let word = word_at(self.source, place as usize);
+                self.put_about_local(out, id, own.local(), word, question)
+            }
+            Err(_) => put_refusal(out, id),
+        }
+    }
+
+    /// The header at a place, where a definition or a declaration is asked for.
     fn header_asked(&self, place: u32, question: PlaceQuestion) -> Option<Span>
         ensures { result ≡ header_asked self.now.facts.now.includes place question }
     {
         match question {
             PlaceQuestion::Definition => header_at(self.facts.includes(), place as usize),
+            PlaceQuestion::Declaration => header_at(self.facts.includes(), place as usize),
             _ => None,
         }
     }

@@ -72,9 +72,9 @@ pub fn ranges_are_in_order()
 pub fn ranges_are_of_names()
     ensures word { (e : Encoding) (text : List ℕ) (p : Position) (word : Span)
         → word_at text (place e text p) ≡ Some word → IsNameOf text word }
-    ensures shown { (w : World) (name text : List ℕ) (space : Option Space) (word : Span)
-        → IsAscending w.files
-        → AllByRecursion (IsNamedIn w.files) (word_shown w name text space word) }
+    ensures shown { (w : World) (name text : List ℕ) (space : Option Space)
+        (declarations : Bool) (word : Span) → IsAscending w.files
+        → AllByRecursion (IsNamedIn w.files) (word_shown w name text space declarations word) }
     ensures uses { (w : World) (name text : List ℕ) (word : Span) (declarations : Bool)
         → IsAscending w.files → IsNameOf text word
         → AllByRecursion (IsUseIn w.files (bytes_of text word))

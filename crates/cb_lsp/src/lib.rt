@@ -31,6 +31,7 @@ mod meaning;
 mod nearest;
 mod notice;
 mod outgoing;
+mod parameter;
 mod params;
 mod place;
 mod question;

@@ -2,7 +2,6 @@
 ghost use Rattle.std.specs.Prelude.{◌≡◌, ◌∷◌, [], MatchOption, map};
 ghost use Rattle.cb_names.specs.declared.local.LocalUse.{LocalUse as Use};
 ghost use Rattle.cb_tags.specs.Writing.{Puts};
-ghost use Rattle.cb_wire.specs.Locations.{location_tree};
 ghost use Rattle.cb_wire.specs.Messages.{id_json};
 ghost use Rattle.cb_wire.specs.Texts.{frame};
 ghost use Rattle.cb_wire.specs.Trees.{result_reply};
@@ -274,6 +273,7 @@ impl<'a> FileAsked<'a> {
     {
         match question {
             PlaceQuestion::Definition => self.put_local_definition(out, id, own.definition()),
+            PlaceQuestion::Declaration => self.put_local_definition(out, id, own.definition()),
             PlaceQuestion::Hover => self.put_local_hover_at(out, id, word, own.definition()),
             PlaceQuestion::Highlights => self.put_local_marks(out, id, own.uses()),
             PlaceQuestion::References(declarations) => {

@@ -23,7 +23,8 @@ ghost use Rattle.cb_lsp.specs.LocalRenames.{byte_at, byte_before, callers, edite
 ghost use Rattle.cb_lsp.specs.LocalRenames.{is_bad, is_beside_odd, is_handed, is_hidden, is_joined_at};
 ghost use Rattle.cb_lsp.specs.LocalRenames.{is_joined_before, is_macro_or_type, is_named, is_odd};
 ghost use Rattle.cb_lsp.specs.LocalRenames.{is_special, is_taken, is_use_in, is_used_in, is_within};
-ghost use Rattle.cb_lsp.specs.LocalRenames.{local_edits, renamed_local, unless_arguments};
+ghost use Rattle.cb_lsp.specs.LocalRenames.{local_edits, renamed_local, renamed_parameter};
+ghost use Rattle.cb_lsp.specs.LocalRenames.{unless_arguments, unless_parameter};
 ghost use Rattle.cb_lsp.specs.LocalRenames.{unless_alone, unless_bytes, unless_given, unless_handed};
 ghost use Rattle.cb_lsp.specs.LocalRenames.{unless_included};
 ghost use Rattle.cb_lsp.specs.LocalRenames.{unless_local};
@@ -42,7 +43,7 @@ use crate::rename::{Renaming, Unedited, put_unedited};
 use crate::written::{put_refusal, put_refused};
 use cb_desk::Desk;
 use cb_macros::{Sought, first_through, has_parameters};
-use cb_names::{Arguments, FunctionNames, Local, LocalUse, function_names, takes_member};
+use cb_names::{Arguments, Code, FunctionNames, Local, LocalUse, Parameter, takes_member};
 use cb_scan::{Include, Kind, Source, Span, Use, is_name};
 use cb_tags::{Sink, WriteFault};
 use cb_wire::{Elements, FileEdit, Id, Location, MOST_ELEMENTS, Part, Root, put_list_result};
@@ -443,9 +444,9 @@ impl<'a, 'l> Elements for LocalEdits<'a, 'l> {
 
 impl<'a> Renaming<'a> {
     /// Why a local is not renamed by the names alone.
-    fn unless_names(&self, function: &FunctionNames, old: &[u8]) -> Option<Unedited<'a>>
+    fn unless_names(&self, extent: Span, old: &[u8]) -> Option<Unedited<'a>>
         ensures { option_map reason_of result ≡ unless_names (work_in self.now).world
-            self.now.asked.source.now function.now self.now.asked.facts.now.uses old.now
+            self.now.asked.source.now extent self.now.asked.facts.now.uses old.now
             self.now.new_name.now }
     {
         let asked = self.asked;
@@ -453,7 +454,7 @@ impl<'a> Renaming<'a> {
         if is_bad(old, new) {
             return Some(Unedited::BadName);
         }
-        if is_used_in(asked.source, function.extent(), asked.facts.uses(), new) {
+        if is_used_in(asked.source, extent, asked.facts.uses(), new) {
             return Some(Unedited::UsedAlready);
         }
         if is_taken(asked.desk, new) || is_taken(asked.desk, old) {
@@ -637,7 +638,7 @@ impl<'a> Renaming<'a> {
             (work_in self.now).world self.now.asked.name.now self.now.asked.source.now
             function.now self.now.asked.facts.now old.entry.now self.now.new_name.now own.now) }
     {
-        if let Some(why) = self.unless_names(function, old) {
+        if let Some(why) = self.unless_names(function.extent(), old) {
             return Ok(Some(why));
         }
         if let Some(why) = self.unless_macro(alloc, function, old)? {
@@ -652,6 +653,44 @@ impl<'a> Renaming<'a> {
         match self.unless_included(function.extent()) {
             Some(why) => Ok(Some(why)),
             None => Ok(self.unless_bytes(own.uses())),
+        }
+    }
+
+    /// Why a parameter of a macro is not renamed by what becomes of arguments that hold it.
+    fn unless_held(
+        &self,
+        alloc: Global,
+        parameter: &Parameter,
+    ) -> Result<Option<Unedited<'a>>, AllocError>
+        ensures { IfOk result (λ why. option_map reason_of why ≡ unless_arguments
+            (work_in self.now).world self.now.asked.source.now (callers
+            (map (λ (u : OwnUse). u.name) parameter.now.name.uses) parameter.now.arguments)) }
+    {
+        let touched = spans_of(alloc, parameter.local().uses())?;
+        let callers = callers(alloc, touched.as_slice(), parameter.arguments())?;
+        match self.unless_called(alloc, callers.as_slice()) {
+            Ok(why) => Ok(why),
+            Err(error) => Err(error),
+        }
+    }
+
+    /// Why a parameter of a macro is not renamed.
+    fn unless_parameter(
+        &self,
+        alloc: Global,
+        parameter: &Parameter,
+        old: &[u8],
+    ) -> Result<Option<Unedited<'a>>, AllocError>
+        ensures { IfOk result (λ why. option_map reason_of why ≡ unless_parameter
+            (work_in self.now).world self.now.asked.name.now self.now.asked.source.now
+            self.now.asked.facts.now.uses old.now self.now.new_name.now parameter.now) }
+    {
+        if let Some(why) = self.unless_names(parameter.extent(), old) {
+            return Ok(Some(why));
+        }
+        match self.unless_held(alloc, parameter)? {
+            Some(why) => Ok(Some(why)),
+            None => Ok(self.unless_bytes(parameter.local().uses())),
         }
     }
 
@@ -706,6 +745,57 @@ impl<'a> Renaming<'a> {
         }
     }
 
+    /// Writes how a parameter of a macro that is defined at a span is renamed.
+    fn put_parameter_from<D: Disk, W: Write>(
+        &self,
+        alloc: Global,
+        disk: &D,
+        out: &mut Sink<W>,
+        id: Id<'_>,
+        parameter: &Parameter,
+        definition: Span,
+    ) -> Result<(), WriteFault>
+        requires { self.now.asked.facts.now
+            ≡ facts_in (work_in self.now).world.profile self.now.asked.source.now }
+        ensures { (no_memory : Bool) × (o : Oracle) × Replies (D.finds disk.now)
+            (reply_unless no_memory (id_json id.entry)
+            (renamed_parameter o (client_in self.now.asked.forms) (work_in self.now)
+            self.now.asked.name.now self.now.asked.source.now self.now.new_name.now
+            parameter.now (Some definition))) out.old out.new result }
+    {
+        let old = bytes_of(self.asked.source, definition);
+        match self.unless_parameter(alloc, parameter, old) {
+            Ok(Some(why)) => put_unedited(out, id, why),
+            Ok(None) => self.put_if_edited(alloc, disk, out, id, parameter.local().uses()),
+            Err(_) => put_refusal(out, id),
+        }
+    }
+
+    /// Writes how a parameter of a macro is renamed.
+    pub(crate) fn put_parameter<D: Disk, W: Write>(
+        &self,
+        alloc: Global,
+        disk: &D,
+        out: &mut Sink<W>,
+        id: Id<'_>,
+        parameter: &Parameter,
+    ) -> Result<(), WriteFault>
+        requires { self.now.asked.facts.now
+            ≡ facts_in (work_in self.now).world.profile self.now.asked.source.now }
+        ensures { (no_memory : Bool) × (o : Oracle) × Replies (D.finds disk.now)
+            (reply_unless no_memory (id_json id.entry)
+            (renamed_parameter o (client_in self.now.asked.forms) (work_in self.now)
+            self.now.asked.name.now self.now.asked.source.now self.now.new_name.now
+            parameter.now parameter.now.name.definition)) out.old out.new result }
+    {
+        match parameter.local().definition() {
+            Some(definition) => {
+                self.put_parameter_from(alloc, disk, out, id, parameter, definition)
+            }
+            None => put_refused(out, id, b"no such definition"),
+        }
+    }
+
     /// Writes how a local that is defined at a span is renamed in a function.
     fn put_in_function<D: Disk, W: Write>(
         &self,
@@ -740,10 +830,12 @@ impl<'a> Renaming<'a> {
         disk: &D,
         out: &mut Sink<W>,
         id: Id<'_>,
+        code: &Code<'_>,
         place: u32,
         own: &Local,
     ) -> Result<(), WriteFault>
-        requires { self.now.asked.facts.now
+        requires code { code.now ≡ self.now.asked.source.now }
+        requires facts { self.now.asked.facts.now
             ≡ facts_in (work_in self.now).world.profile self.now.asked.source.now }
         ensures { (no_memory : Bool) × (o : Oracle) × Replies (D.finds disk.now)
             (reply_unless no_memory (id_json id.entry)
@@ -755,7 +847,7 @@ impl<'a> Renaming<'a> {
         let Some(definition) = own.definition() else {
             return put_refused(out, id, b"no such definition");
         };
-        match function_names(alloc, self.asked.source, place) {
+        match code.function_names(alloc, place) {
             Ok(Some(function)) => {
                 self.put_in_function(alloc, disk, out, id, own, definition, &function)
             }

@@ -5,9 +5,9 @@ ghost use Rattle.std.specs.Iterator.{YieldsFirstBy, item_count};
 ghost use Rattle.std.specs.List.{list_any};
 ghost use Rattle.cb_tags.specs.TagLines.{tag_of};
 ghost use Rattle.cb_lsp.specs.Nearest.{apart, first_had, has, is_in_view, is_members, is_private};
-ghost use Rattle.cb_lsp.specs.Nearest.{kinds_at, nearness, shown, slashes, takes};
-ghost use Rattle.cb_lsp.specs.steps.Nearby.{defined, left_from, nearest_left, own_or_near, shows};
-ghost use Rattle.cb_lsp.specs.steps.Nearby.{shows_at, viewed};
+ghost use Rattle.cb_lsp.specs.Nearest.{is_preferred, kinds_at, nearness, shown, slashes, takes};
+ghost use Rattle.cb_lsp.specs.steps.Nearby.{left_from, nearest_left, own_or_near, shows};
+ghost use Rattle.cb_lsp.specs.steps.Nearby.{shows_at, sided, viewed};
 
 use cb_desk::Definitions;
 use cb_names::Space;
@@ -150,15 +150,28 @@ fn nearness(from: &[u8], file: &[u8]) -> usize
     nearness_left(one, other)
 }
 
+/// Whether a kind is preferred: that of a declaration where declarations are asked for, else any
+/// other one.
+fn is_preferred(declarations: bool, kind: Kind) -> bool
+    ensures { result ≡ is_preferred declarations kind }
+{
+    if declarations {
+        kind.is_declaration()
+    } else {
+        !kind.is_declaration()
+    }
+}
+
 /// Which definitions are shown in the file that asks: those of the kinds, and of these where it is
-/// wanted those alone that are in view, that are no declarations, that are of the file, and that are
-/// as near as they are asked for.
+/// wanted those alone that are in view, that are preferred, that are of the file, and that are as
+/// near as they are asked for.
 #[derive(Clone, Copy)]
 struct Sight<'p> {
     from: &'p [u8],
     kinds: Kinds,
+    declarations: bool,
     viewed: bool,
-    defined: bool,
+    sided: bool,
     own: bool,
     near: bool,
 }
@@ -170,7 +183,7 @@ impl Sight<'_> {
     {
         takes(self.kinds, row.kind)
             && (!self.viewed || is_in_view(self.from, row))
-            && (!self.defined || !row.kind.is_declaration())
+            && (!self.sided || is_preferred(self.declarations, row.kind))
             && (!self.own || row.file == self.from)
     }
 
@@ -205,12 +218,12 @@ impl Sight<'_> {
         if narrow.has(rows) { narrow } else { self }
     }
 
-    /// Those that are no declarations alone, if there are some.
-    fn defined(self, rows: &Definitions<'_, '_>) -> Self
-        ensures { result ≡ defined self.entry rows.now }
+    /// Those that are preferred alone, if there are some.
+    fn sided(self, rows: &Definitions<'_, '_>) -> Self
+        ensures { result ≡ sided self.entry rows.now }
     {
         let narrow = Sight {
-            defined: true,
+            sided: true,
             ..self
         };
         if narrow.has(rows) { narrow } else { self }
@@ -262,28 +275,31 @@ impl<'a, 'p> Nearest<'a, 'p> {
         }
     }
 
-    /// Of the definitions of a name those that are shown in a file, where the name has this space.
+    /// Of the definitions of a name those that are shown in a file, where the name has this space:
+    /// declarations before others, or others before them.
     pub(crate) fn new(
         rows: Definitions<'a, 'p>,
         from: &'p [u8],
         space: Option<Space>,
+        declarations: bool,
     ) -> Nearest<'a, 'p>
         ensures { nearest_left result
-            ≡ shown from.entry.now (kinds_at space rows.entry) rows.entry }
+            ≡ shown from.entry.now (kinds_at space rows.entry) declarations rows.entry }
     {
         let kinds = kinds_at(&rows, space);
         let all = Sight {
             from,
             kinds,
+            declarations,
             viewed: false,
-            defined: false,
+            sided: false,
             own: false,
             near: false,
         };
         if is_members(kinds) {
             return Nearest::seen(rows, all);
         }
-        let sight = all.viewed(&rows).defined(&rows).own_or_near(&rows);
+        let sight = all.viewed(&rows).sided(&rows).own_or_near(&rows);
         Nearest::seen(rows, sight)
     }
 

@@ -232,7 +232,7 @@ fn push_called<'a, 'p>(
 {
     let calls = group.calls;
     let rows = desk.definitions(group.first.name);
-    let mut rest = Nearest::new(rows, file, Some(Space::Called));
+    let mut rest = Nearest::new(rows, file, Some(Space::Called), false);
     'rows: while called.len() < MOST_CALLED {
         match next_callable(&mut rest) {
             Some(row) => called.push(CalledRow { row, calls })?,

@@ -19,6 +19,8 @@ use cb_wire::{Call, Position};
 pub(crate) enum PlaceQuestion {
     /// Where it is defined.
     Definition,
+    /// Where it is declared, or else defined.
+    Declaration,
     /// What it is.
     Hover,
     /// Its uses in the file.
@@ -181,6 +183,8 @@ pub(crate) fn question_of<'v, 'a>(call: Call<'v, 'a>) -> Result<Question<'a>, Un
         or_bad(document_symbols(call))
     } else if call.method == "textDocument/definition" {
         or_bad(at_place(call, PlaceQuestion::Definition))
+    } else if call.method == "textDocument/declaration" {
+        or_bad(at_place(call, PlaceQuestion::Declaration))
     } else if call.method == "textDocument/hover" {
         or_bad(at_place(call, PlaceQuestion::Hover))
     } else if call.method == "textDocument/documentHighlight" {

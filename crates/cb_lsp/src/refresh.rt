@@ -1,11 +1,10 @@
 //! The files that are read again before a question is answered, where the client does not tell of
 //! files that are written.
-ghost use Rattle.std.specs.Prelude.{◌≡◌, ◌++◌, IfOk, Some, fold, map};
+ghost use Rattle.std.specs.Prelude.{◌≡◌, IfOk, Some, fold, map};
 ghost use Rattle.std.specs.List.{list_any};
 ghost use Rattle.std.specs.Option.{option_map};
 ghost use Rattle.std.specs.Str.{bytes_eq};
-ghost use Rattle.cb_index.specs.Rows.{Fact, tags_named, uses_of};
-ghost use Rattle.cb_tags.specs.TagLines.{Tag};
+ghost use Rattle.cb_index.specs.Rows.{tags_named};
 ghost use Rattle.cb_lsp.specs.Models.{asked_of, sought_of};
 ghost use Rattle.cb_lsp.specs.Answers.{name_of_uri};
 ghost use Rattle.cb_lsp.specs.Refresh.{about, files_asked, files_besides, files_called_in};
@@ -262,6 +261,7 @@ fn sought_at<'a>(
 {
     let (position, uses) = match question {
         FileQuestion::At(position, PlaceQuestion::Definition) => (position, false),
+        FileQuestion::At(position, PlaceQuestion::Declaration) => (position, false),
         FileQuestion::At(position, PlaceQuestion::Hover) => (position, false),
         FileQuestion::At(position, PlaceQuestion::Callables) => (position, false),
         FileQuestion::At(position, PlaceQuestion::References(_)) => (position, true),

@@ -1,5 +1,5 @@
 //! Names that are changed: the edits of their uses.
-ghost use Rattle.std.specs.Prelude.{◌≡◌, Bool, Err, Some, take};
+ghost use Rattle.std.specs.Prelude.{◌≡◌, ◌≤◌, Bool, Err, Some, length, take};
 ghost use Rattle.std.specs.Option.{option_map};
 ghost use Rattle.cb_desk.specs.World.{text_of_file};
 ghost use Rattle.cb_index.specs.Rows.{uses_of};
@@ -14,10 +14,11 @@ ghost use Rattle.cb_wire.specs.Values.{value_text};
 ghost use Rattle.cb_lsp.specs.Answers.{answer_reply, reply_with};
 ghost use Rattle.cb_lsp.specs.Bodies.{Replies};
 ghost use Rattle.cb_lsp.specs.Documents.{Oracle, Reading};
-ghost use Rattle.cb_lsp.specs.LocalRenames.{renamed_name};
+ghost use Rattle.cb_lsp.specs.LocalRenames.{renamed_name, renamed_there};
 ghost use Rattle.cb_lsp.specs.Messages.{reply_unless};
 ghost use Rattle.cb_lsp.specs.Models.{found_in};
 ghost use Rattle.cb_lsp.specs.Names.{is_outside, leads_down};
+ghost use Rattle.cb_lsp.specs.Parameters.{parameter_there};
 ghost use Rattle.cb_lsp.specs.Renames.{all_edits, are_open, check, checked, is_never_edited};
 ghost use Rattle.cb_lsp.specs.Renames.{is_some_use, renamed_all, renamed_uses};
 ghost use Rattle.cb_lsp.specs.Renames.{renamed_word, unless_found, unless_linked};
@@ -37,7 +38,7 @@ use crate::reach::Reached;
 use crate::word::word_at;
 use crate::written::{put_because, put_odd_bytes, put_refusal, put_refused};
 use cb_desk::Desk;
-use cb_names::local_at;
+use cb_names::Code;
 use cb_scan::{Span, is_name};
 use cb_tags::{Sink, WriteFault};
 use cb_wire::{Elements, FileEdit, Id, MOST_ELEMENTS, Part, Position, put_list_result};
@@ -430,7 +431,63 @@ impl<'a> Renaming<'a> {
         }
     }
 
-    /// Writes how the word at a position is renamed.
+    /// Writes how what stands at a place of the code is renamed.
+    fn put_code<D: Disk, W: Write>(
+        &self,
+        alloc: Global,
+        disk: &D,
+        out: &mut Sink<W>,
+        id: Id<'_>,
+        code: &Code<'_>,
+        place: u32,
+    ) -> Result<(), WriteFault>
+        requires code { code.now ≡ self.now.asked.source.now }
+        requires place { place ≤ length self.now.asked.source.now }
+        requires facts { self.now.asked.facts.now
+            ≡ facts_in (work_in self.now).world.profile self.now.asked.source.now }
+        ensures { (no_memory : Bool) × (o : Oracle) × Replies (D.finds disk.now)
+            (reply_unless no_memory (id_json id.entry)
+            (renamed_name o (client_in self.now.asked.forms) (work_in self.now)
+            self.now.asked.name.now self.now.asked.source.now self.now.new_name.now place
+            (local_at self.now.asked.source.now place))) out.old out.new result }
+    {
+        match code.local_at(alloc, place) {
+            Ok(None) => {
+                let word = self
+                    .asked
+                    .renamable(word_at(self.asked.source, place as usize));
+                self.put_word(alloc, disk, out, id, word)
+            }
+            Ok(Some(own)) => self.put_local(alloc, disk, out, id, code, place, &own),
+            Err(_) => put_refusal(out, id),
+        }
+    }
+
+    /// The same, where the code is not read yet.
+    fn put_text<D: Disk, W: Write>(
+        &self,
+        alloc: Global,
+        disk: &D,
+        out: &mut Sink<W>,
+        id: Id<'_>,
+        place: u32,
+    ) -> Result<(), WriteFault>
+        requires place { place ≤ length self.now.asked.source.now }
+        requires facts { self.now.asked.facts.now
+            ≡ facts_in (work_in self.now).world.profile self.now.asked.source.now }
+        ensures { (no_memory : Bool) × (o : Oracle) × Replies (D.finds disk.now)
+            (reply_unless no_memory (id_json id.entry)
+            (renamed_name o (client_in self.now.asked.forms) (work_in self.now)
+            self.now.asked.name.now self.now.asked.source.now self.now.new_name.now place
+            (local_at self.now.asked.source.now place))) out.old out.new result }
+    {
+        match Code::new(alloc, self.asked.source) {
+            Ok(code) => self.put_code(alloc, disk, out, id, &code, place),
+            Err(_) => put_refusal(out, id),
+        }
+    }
+
+    /// Writes how what stands at a position is renamed.
     pub(crate) fn put<D: Disk, W: Write>(
         &self,
         alloc: Global,
@@ -444,19 +501,16 @@ impl<'a> Renaming<'a> {
         ensures { (no_memory : Bool) × (o : Oracle) × Replies (D.finds disk.now)
             (reply_unless no_memory (id_json id.entry)
             (let at = place self.now.asked.forms.encoding self.now.asked.source.now position in
-            renamed_name o (client_in self.now.asked.forms) (work_in self.now)
+            renamed_there o (client_in self.now.asked.forms) (work_in self.now)
             self.now.asked.name.now self.now.asked.source.now self.now.new_name.now at
-            (local_at self.now.asked.source.now at))) out.old out.new result }
+            (parameter_there (facts_in (work_in self.now).world.profile
+            self.now.asked.source.now).defs self.now.asked.source.now at))) out.old out.new
+            result }
     {
         let place = self.asked.place(position);
-        match local_at(alloc, self.asked.source, place) {
-            Ok(None) => {
-                let word = self
-                    .asked
-                    .renamable(word_at(self.asked.source, place as usize));
-                self.put_word(alloc, disk, out, id, word)
-            }
-            Ok(Some(own)) => self.put_local(alloc, disk, out, id, place, &own),
+        match self.asked.parameter_there(place) {
+            Ok(None) => self.put_text(alloc, disk, out, id, place),
+            Ok(Some(parameter)) => self.put_parameter(alloc, disk, out, id, &parameter),
             Err(_) => put_refusal(out, id),
         }
     }

@@ -10,6 +10,7 @@ pub mod ListLemmas
 pub mod MacroLemmas
 pub mod NestingLemmas
 pub mod PairingLemmas
+pub mod ParameterLemmas
 pub mod RenamingLaws
 pub mod RenamingLemmas
 pub mod SeenLemmas

@@ -1,8 +1,8 @@
 -- The function around a place: from the first token of its head to the end of its body, without the
 -- attributes that are left out everywhere. This is the project's profile.
-use Rattle.std.specs.Prelude.{ℕ, zero, suc, Bool, ◌&&◌, ◌||◌, nat_le, nat_lt, not, List, drop, find, map, take}
+use Rattle.std.specs.Prelude.{◌≡◌, ◌<◌, ◌^◌, length, ℕ, zero, suc, Bool, ◌&&◌, ◌||◌, nat_le, nat_lt, not, List, drop, find, map, take}
 use Rattle.std.specs.Prelude.{if◌then◌else◌, Option}
-use Rattle.std.specs.List.{prefix_len}
+use Rattle.std.specs.List.{AllByRecursion, prefix_len}
 use Rattle.cb_scan.specs.Bytes.{close_brace, open_brace, semicolon}
 use Rattle.cb_scan.specs.CodeTokens.{IsTokenOf, code_of}
 use Rattle.cb_scan.specs.Profiles.{ranges_in}
@@ -16,6 +16,13 @@ use Rattle.cb_names.specs.declared.word.Item.{Item}
 -- the items of the code of a text
 abbrev pub items : List ℕ → List Item
 items text = map (item_of text) (code_of text)
+
+-- the functions and the items of a text
+pub record IsCodeOf (text : List ℕ) (rs : List Range) (xs : List Item) : Type 0 where
+  pub ranges : rs ≡ ranges_in Wide text
+  pub items : xs ≡ items text
+  pub within : AllByRecursion (IsTokenOf text) (code_of text)
+  pub few : length xs < 2 ^ 32
 
 -- the token of an item lies in a text
 abbrev pub IsItemOf : List ℕ → Item → Type 0

@@ -11,6 +11,7 @@ pub mod Locals
 pub mod Macros
 pub mod Meanings
 pub mod Pairs
+pub mod Parameters
 pub mod Renaming
 pub mod Scoped
 pub mod Scopes

@@ -1,17 +1,17 @@
 //! The function around a place.
-ghost use Rattle.std.specs.Prelude.{◌≡◌, ◌<◌, ◌≤◌, ◌^◌, IfErr, IfOk, MatchOption, None, Some, find};
+ghost use Rattle.std.specs.Prelude.{◌≡◌, ◌<◌, ◌≤◌, ◌^◌, IfOk, None, Some, find};
 ghost use Rattle.std.specs.Prelude.{length, map, nat_le};
-ghost use Rattle.std.specs.List.{AllByRecursion, prefix_len};
+ghost use Rattle.std.specs.List.{AllByRecursion};
 ghost use Rattle.cb_scan.specs.CodeTokens.{IsTokenOf};
 ghost use Rattle.cb_scan.specs.declared.rules.scope.Range.{Range};
-ghost use Rattle.cb_names.specs.Functions.{IsItemOf, before, body_of, ends_head, extent, function_at};
+ghost use Rattle.cb_names.specs.Functions.{before, body_of, ends_head, extent};
 ghost use Rattle.cb_names.specs.Functions.{head_before, is_before, items, opens_behind, own_items};
 ghost use Rattle.cb_names.specs.Words.{item_of};
 
 use crate::hard::without_hard;
 use crate::pairs::sign;
 use crate::word::{Item, item_of};
-use cb_scan::{Range, Rules, ScanError, Source, WideToken, code_tokens, function_ranges};
+use cb_scan::{Range, WideToken};
 use std::alloc::{AllocError, Global};
 
 /// The tokens of the code, and what the word of each is.
@@ -97,33 +97,16 @@ pub(crate) fn extent(items: &[Item], range: Range) -> &[Item]
 }
 
 /// The same without the attributes that are left out everywhere.
-fn own_items(alloc: Global, items: &[Item], range: Range) -> Result<Vec<Item>, AllocError>
+pub(crate) fn own_items(
+    alloc: Global,
+    items: &[Item],
+    range: Range,
+) -> Result<Vec<Item>, AllocError>
     requires { length items.now < 2 ^ 32 }
     ensures value { IfOk result (λ found. found.items ≡ own_items items.now range) }
     ensures few { IfOk result (λ found. length found.items ≤ length items.now) }
 {
     without_hard(alloc, extent(items, range))
-}
-
-/// The same of the tokens of the code.
-fn own_items_of(
-    alloc: Global,
-    text: &[u8],
-    tokens: &[WideToken],
-    range: Range,
-) -> Result<Vec<Item>, AllocError>
-    requires within { AllByRecursion (IsTokenOf text.now) tokens.now }
-    requires few { length tokens.now < 2 ^ 32 }
-    ensures value { IfOk result
-        (λ found. found.items ≡ own_items (map (item_of text.now) tokens.now) range) }
-    ensures few { IfOk result (λ found. length found.items ≤ length tokens.now) }
-    ensures within { IfOk result (λ found. AllByRecursion (IsItemOf text.now) found.items) }
-{
-    let items = items_of(alloc, text, tokens)?;
-    match own_items(alloc, items.as_slice(), range) {
-        Ok(found) => Ok(found),
-        Err(error) => Err(error),
-    }
 }
 
 /// Whether a function ends at a place or behind it.
@@ -150,31 +133,4 @@ pub(crate) fn function_among(ranges: &[Range], place: u32) -> Option<Range>
 pub(crate) struct Function {
     pub range: Range,
     pub items: Vec<Item>,
-}
-
-/// The function around a place, or the next one.
-pub(crate) fn function_at(
-    alloc: Global,
-    source: &Source,
-    place: u32,
-) -> Result<Option<Function>, ScanError>
-    ensures value { IfOk result (λ found. MatchOption found
-        (function_at source.now place ≡ None)
-        (λ f. (function_at source.now place ≡ Some f.range)
-        × (f.items.items ≡ own_items (items source.now) f.range))) }
-    ensures few { IfOk result (λ found. MatchOption found (Unit {0})
-        (λ f. length f.items.items < 2 ^ 32)) }
-    ensures within { IfOk result (λ found. MatchOption found (Unit {0})
-        (λ f. AllByRecursion (IsItemOf source.now) f.items.items)) }
-    ensures memory { IfErr result (λ e. e ≡ ScanError.OutOfMemory) }
-{
-    let ranges = function_ranges(alloc, Rules::Wide, source)?;
-    let Some(range) = function_among(ranges.as_slice(), place) else {
-        return Ok(None);
-    };
-    let tokens = code_tokens(alloc, source)?;
-    match own_items_of(alloc, source.bytes(), tokens.as_slice(), range) {
-        Ok(items) => Ok(Some(Function { range, items })),
-        Err(_) => Err(ScanError::OutOfMemory),
-    }
 }

@@ -84,7 +84,7 @@ pub(crate) fn bytes_at<'a>(text: &'a [u8], items: &[Item], index: u32) -> &'a [u
 }
 
 /// Whether two tokens have the same bytes.
-fn is_same(text: &[u8], items: &[Item], j: u32, k: u32) -> bool
+pub(crate) fn is_same(text: &[u8], items: &[Item], j: u32, k: u32) -> bool
     requires within { AllByRecursion (IsItemOf text.now) items.now }
     requires first { j < length items.now }
     requires second { k < length items.now }

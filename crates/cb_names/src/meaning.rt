@@ -1,5 +1,5 @@
 //! What the name at a place means in its function alone.
-ghost use Rattle.std.specs.Prelude.{◌≡◌, ◌<◌, ◌^◌, IfErr, IfOk, length};
+ghost use Rattle.std.specs.Prelude.{◌≡◌, ◌<◌, ◌^◌, IfOk, length};
 ghost use Rattle.std.specs.List.{AllByRecursion};
 ghost use Rattle.cb_names.specs.Bindings.{variable_at};
 ghost use Rattle.cb_names.specs.Functions.{IsItemOf, before, body_of};
@@ -9,14 +9,15 @@ ghost use Rattle.cb_names.specs.Statements.{starts};
 ghost use Rattle.cb_names.specs.Tables.{IsTable};
 
 use crate::bindings::variable_at;
+use crate::code::Code;
 use crate::declared::{Told, enums_of};
-use crate::function::{Function, before, body_of, function_at};
+use crate::function::{Function, before, body_of};
 use crate::labels::{index_at, label_of};
 use crate::local::Local;
 use crate::shape::{Shape, shape_of};
 use crate::statements::starts_of;
 use crate::word::Item;
-use cb_scan::{ScanError, Source};
+use cb_scan::Source;
 use std::alloc::{AllocError, Global};
 
 /// The local variable or parameter that a token names, if it names one.
@@ -90,18 +91,19 @@ fn local_of(
     local_in(alloc, source.bytes(), function.items, name, body, place)
 }
 
-/// What the name at a place of a text means in its function alone: the name token that holds the
-/// place or ends at it counts. Refused memory is the only error. Time in proportion to the text,
-/// but for lists of parameters inside others, which are read once more for each around them.
-pub fn local_at(alloc: Global, source: &Source, place: u32) -> Result<Option<Local>, ScanError>
-    ensures local { IfOk result (λ found. found ≡ local_at source.now place) }
-    ensures memory { IfErr result (λ e. e ≡ ScanError.OutOfMemory) }
-{
-    let Some(function) = function_at(alloc, source, place)? else {
-        return Ok(None);
-    };
-    match local_of(alloc, source, place, function) {
-        Ok(found) => Ok(found),
-        Err(_) => Err(ScanError::OutOfMemory),
+impl Code<'_> {
+    /// What the name at a place means in its function alone: the name token that holds the place or
+    /// ends at it counts. Refused memory is the only error. Time in proportion to the function, but
+    /// for lists of parameters inside others, which are read once more for each around them.
+    pub fn local_at(&self, alloc: Global, place: u32) -> Result<Option<Local>, AllocError>
+        ensures { IfOk result (λ found. found ≡ local_at self.now place) }
+    {
+        let Some(function) = self.function_at(alloc, place)? else {
+            return Ok(None);
+        };
+        match local_of(alloc, self.source, place, function) {
+            Ok(found) => Ok(found),
+            Err(error) => Err(error),
+        }
     }
 }

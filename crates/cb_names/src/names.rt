@@ -1,7 +1,6 @@
 //! The names of the function around a place, and which of them have arguments.
-ghost use Rattle.std.specs.Prelude.{◌≡◌, ◌<◌, ◌≤◌, ◌-◌, ◌^◌, ◌++◌, ◌∷◌, [], IfErr, IfOk, find, length};
-ghost use Rattle.std.specs.Prelude.{◌&&◌, if◌then◌else◌, nat_le, nat_lt, not};
-ghost use Rattle.std.specs.Option.{option_map};
+ghost use Rattle.std.specs.Prelude.{◌≡◌, ◌<◌, ◌≤◌, ◌-◌, ◌^◌, ◌++◌, ◌∷◌, [], IfOk, find, length};
+ghost use Rattle.std.specs.Prelude.{◌&&◌, if◌then◌else◌, nat_lt, not};
 ghost use Rattle.std.specs.List.{list_any, range_with_len};
 ghost use Rattle.cb_scan.specs.declared.rules.scope.Range.{Range as FunctionRange};
 ghost use Rattle.cb_names.specs.Declarations.{is_name_item};
@@ -12,7 +11,6 @@ ghost use Rattle.cb_names.specs.FunctionNames.{is_lone_end, is_old_designator};
 ghost use Rattle.cb_names.specs.FunctionNames.{is_unsure, is_whole, names_by, names_in, names_of};
 ghost use Rattle.cb_names.specs.FunctionNames.{names_over, next_name};
 ghost use Rattle.cb_names.specs.FunctionNames.{is_lone, lone_of, unsure_of};
-ghost use Rattle.cb_names.specs.Functions.{items};
 ghost use Rattle.cb_names.specs.HardAttributes.{without_hard};
 ghost use Rattle.cb_names.specs.Pairs.{innermost, partner};
 ghost use Rattle.cb_names.specs.Braces.{is_block, kind_at};
@@ -23,8 +21,9 @@ ghost use Rattle.cb_names.specs.Tables.{IsTable};
 
 use crate::accesses::ends_operand;
 use crate::braces::{Brace, follows_separator, is_name_at};
+use crate::code::Code;
 use crate::declared::enums_of;
-use crate::function::{before, body_of, extent, function_among, items_of};
+use crate::function::{before, body_of, extent, function_among};
 use crate::hard::without_hard;
 use crate::labels::span_at;
 use crate::pairs::{answer, pairs_of, sign};
@@ -33,7 +32,7 @@ use crate::shape::{Shape, shape_of};
 use crate::spaces::{start_at, touches};
 use crate::statements::is_lone_colon;
 use crate::word::{Item, Word};
-use cb_scan::{Range, Rules, ScanError, Source, Span, code_tokens, function_ranges};
+use cb_scan::{Range, Span};
 use std::alloc::{AllocError, Global};
 use std::marker::Model;
 
@@ -186,7 +185,7 @@ fn push_if(is_wanted: bool, one: Arguments, found: &mut Vec<Arguments>) -> Resul
 }
 
 /// All names with arguments.
-fn arguments_of(alloc: Global, items: &[Item]) -> Result<Vec<Arguments>, AllocError>
+pub(crate) fn arguments_of(alloc: Global, items: &[Item]) -> Result<Vec<Arguments>, AllocError>
     requires { length items.now < 2 ^ 32 }
     ensures { IfOk result (λ found. found.items ≡ arguments_of items.now) }
 {
@@ -515,59 +514,20 @@ fn names_in(
     }
 }
 
-/// The same, by the functions of a text and one of them.
-fn names_of_range(
-    alloc: Global,
-    source: &Source,
-    ranges: &[Range],
-    range: Range,
-) -> Result<FunctionNames, ScanError>
-    ensures value { IfOk result (λ f. f ≡ names_in (items source.now) ranges.now range) }
-    ensures memory { IfErr result (λ e. e ≡ ScanError.OutOfMemory) }
-{
-    let tokens = code_tokens(alloc, source)?;
-    let Ok(items) = items_of(alloc, source.bytes(), tokens.as_slice()) else {
-        return Err(ScanError::OutOfMemory);
-    };
-    match names_in(alloc, items.as_slice(), ranges, range) {
-        Ok(names) => Ok(names),
-        Err(_) => Err(ScanError::OutOfMemory),
-    }
-}
-
-/// The same of the function around a place, if there is one.
-fn names_at(
-    alloc: Global,
-    source: &Source,
-    ranges: &[Range],
-    place: u32,
-) -> Result<Option<FunctionNames>, ScanError>
-    ensures value { IfOk result (λ found. found ≡ option_map (names_in (items source.now) ranges.now)
-        (find (λ (r : FunctionRange). nat_le place r.end) ranges.now)) }
-    ensures memory { IfErr result (λ e. e ≡ ScanError.OutOfMemory) }
-{
-    let Some(range) = function_among(ranges, place) else {
-        return Ok(None);
-    };
-    match names_of_range(alloc, source, ranges, range) {
-        Ok(names) => Ok(Some(names)),
-        Err(error) => Err(error),
-    }
-}
-
-/// The names of the function around a place, or of the next one. Refused memory is the only error.
-/// Time in proportion to the text.
-pub fn function_names(
-    alloc: Global,
-    source: &Source,
-    place: u32,
-) -> Result<Option<FunctionNames>, ScanError>
-    ensures value { IfOk result (λ found. found ≡ function_names source.now place) }
-    ensures memory { IfErr result (λ e. e ≡ ScanError.OutOfMemory) }
-{
-    let ranges = function_ranges(alloc, Rules::Wide, source)?;
-    match names_at(alloc, source, ranges.as_slice(), place) {
-        Ok(names) => Ok(names),
-        Err(error) => Err(error),
+impl Code<'_> {
+    /// The names of the function around a place, or of the next one. Refused memory is the only
+    /// error. Time in proportion to the text.
+    pub fn function_names(
+        &self,
+        alloc: Global,
+        place: u32,
+    ) -> Result<Option<FunctionNames>, AllocError>
+        ensures { IfOk result (λ found. found ≡ function_names self.now place) }
+    {
+        let Some(range) = function_among(self.ranges.as_slice(), place) else {
+            return Ok(None);
+        };
+        let names = names_in(alloc, self.items.as_slice(), self.ranges.as_slice(), range)?;
+        Ok(Some(names))
     }
 }

@@ -1,20 +1,16 @@
 //! The name space of the name at a place.
-ghost use Rattle.std.specs.Prelude.{◌≡◌, ◌<◌, ◌^◌, IfErr, IfOk, length, map};
-ghost use Rattle.std.specs.List.{AllByRecursion};
-ghost use Rattle.cb_scan.specs.CodeTokens.{IsTokenOf};
-ghost use Rattle.cb_names.specs.HardAttributes.{without_hard};
+ghost use Rattle.std.specs.Prelude.{◌≡◌, ◌<◌, ◌^◌, IfOk, length};
 ghost use Rattle.cb_names.specs.Pairs.{at};
 ghost use Rattle.cb_names.specs.SpaceAt.{space_at, space_in, space_of, tag_space_at, tag_space};
-ghost use Rattle.cb_names.specs.Words.{item_of};
 
 use crate::braces::is_keyword_at;
-use crate::function::items_of;
+use crate::code::Code;
 use crate::hard::without_hard;
 use crate::labels::index_at;
 use crate::pairs::sign;
 use crate::spaces::{follows_accessor, is_tag};
 use crate::word::Item;
-use cb_scan::{ScanError, Source, WideRole, WideToken, code_tokens};
+use cb_scan::WideRole;
 use std::alloc::{AllocError, Global};
 
 /// The name space of a name of the code, as far as the tokens around it tell (ISO C 2011, 6.2.3).
@@ -94,34 +90,15 @@ fn space_in(items: &[Item], place: u32) -> Option<Space>
     }
 }
 
-/// The same of the tokens of the code.
-fn space_by(
-    alloc: Global,
-    text: &[u8],
-    tokens: &[WideToken],
-    place: u32,
-) -> Result<Option<Space>, AllocError>
-    requires within { AllByRecursion (IsTokenOf text.now) tokens.now }
-    requires few { length tokens.now < 2 ^ 32 }
-    ensures { IfOk result (λ found. found
-        ≡ space_in (without_hard (map (item_of text.now) tokens.now)) place) }
-{
-    let items = items_of(alloc, text, tokens)?;
-    let kept = without_hard(alloc, items.as_slice())?;
-    Ok(space_in(kept.as_slice(), place))
-}
-
-/// The name space of the name at a place of a text: the name token of the code that holds the place
-/// or ends at it counts, unless it is of an attribute that is left out everywhere. Labels are not
-/// told from other names: ask `local_at` first. Refused memory is the only error. Time in proportion
-/// to the text.
-pub fn space_at(alloc: Global, source: &Source, place: u32) -> Result<Option<Space>, ScanError>
-    ensures space { IfOk result (λ found. found ≡ space_at source.now place) }
-    ensures memory { IfErr result (λ e. e ≡ ScanError.OutOfMemory) }
-{
-    let tokens = code_tokens(alloc, source)?;
-    match space_by(alloc, source.bytes(), tokens.as_slice(), place) {
-        Ok(found) => Ok(found),
-        Err(_) => Err(ScanError::OutOfMemory),
+impl Code<'_> {
+    /// The name space of the name at a place: the name token of the code that holds the place or
+    /// ends at it counts, unless it is of an attribute that is left out everywhere. Labels are not
+    /// told from other names: ask `local_at` first. Refused memory is the only error. Time in
+    /// proportion to the text.
+    pub fn space_at(&self, alloc: Global, place: u32) -> Result<Option<Space>, AllocError>
+        ensures { IfOk result (λ found. found ≡ space_at self.now place) }
+    {
+        let kept = without_hard(alloc, self.items.as_slice())?;
+        Ok(space_in(kept.as_slice(), place))
     }
 }

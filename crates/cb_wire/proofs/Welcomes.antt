@@ -26,7 +26,7 @@ welcome_front id e rest =
     ++ (escape (encoding_name e)
     ++ (codes "\",\"textDocumentSync\":{\"openClose\":true,\"change\":2,\"save\":true},"
     ++ (codes "\"hoverProvider\":true,\"completionProvider\":{},"
-    ++ (codes "\"definitionProvider\":true,"
+    ++ (codes "\"definitionProvider\":true,\"declarationProvider\":true,"
     ++ (codes "\"referencesProvider\":true,\"documentHighlightProvider\":true,"
     ++ (codes "\"documentSymbolProvider\":true,\"workspaceSymbolProvider\":true,"
     ++ (codes "\"renameProvider\":" ++ rest)))))))))

@@ -28,13 +28,14 @@ capabilities encoding prepares =
     (member (codes "hoverProvider") (boolean true)
     (member (codes "completionProvider") (object no_members)
     (member (codes "definitionProvider") (boolean true)
+    (member (codes "declarationProvider") (boolean true)
     (member (codes "referencesProvider") (boolean true)
     (member (codes "documentHighlightProvider") (boolean true)
     (member (codes "documentSymbolProvider") (boolean true)
     (member (codes "workspaceSymbolProvider") (boolean true)
     (member (codes "renameProvider") (renaming prepares)
     (member (codes "callHierarchyProvider") (boolean true)
-    (member (codes "foldingRangeProvider") (boolean true) no_members))))))))))))
+    (member (codes "foldingRangeProvider") (boolean true) no_members)))))))))))))
 
 -- who the server is
 abbrev pub server_info : (version : List ℕ) → Json

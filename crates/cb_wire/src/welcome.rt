@@ -53,7 +53,7 @@ pub fn put_welcome<'a, W: Write>(
             Part::Escaped(encoding_name(encoding)),
             Part::Raw(b"\",\"textDocumentSync\":{\"openClose\":true,\"change\":2,\"save\":true},"),
             Part::Raw(b"\"hoverProvider\":true,\"completionProvider\":{},"),
-            Part::Raw(b"\"definitionProvider\":true,"),
+            Part::Raw(b"\"definitionProvider\":true,\"declarationProvider\":true,"),
             Part::Raw(b"\"referencesProvider\":true,\"documentHighlightProvider\":true,"),
             Part::Raw(b"\"documentSymbolProvider\":true,\"workspaceSymbolProvider\":true,"),
             Part::Raw(b"\"renameProvider\":"),

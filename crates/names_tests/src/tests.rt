@@ -1,4 +1,5 @@
 mod functions;
 mod labels;
 mod locals;
+mod parameters;
 mod spaces;

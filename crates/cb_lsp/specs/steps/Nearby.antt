@@ -3,9 +3,8 @@ use Rattle.std.specs.Prelude.{ℕ, Bool, ◌&&◌, ◌||◌, ◌==◌, not, true
 use Rattle.std.specs.Prelude.{if◌then◌else◌}
 use Rattle.std.specs.List.{list_any}
 use Rattle.std.specs.Str.{bytes_eq}
-use Rattle.cb_scan.specs.Profiles.{is_declaration}
 use Rattle.cb_tags.specs.TagLines.{Tag}
-use Rattle.cb_lsp.specs.Nearest.{descending, is_in_view, nearness, takes}
+use Rattle.cb_lsp.specs.Nearest.{descending, is_in_view, is_preferred, nearness, takes}
 use Rattle.cb_lsp.specs.declared.nearest.Nearest.{Nearest}
 use Rattle.cb_lsp.specs.declared.nearest.Sight.{Sight}
 
@@ -13,7 +12,7 @@ use Rattle.cb_lsp.specs.declared.nearest.Sight.{Sight}
 abbrev pub shows : Sight → Tag → Bool
 shows s t =
     takes s.kinds t.kind && (not s.viewed || is_in_view s.from.now t)
-    && (not s.defined || not (is_declaration t.kind))
+    && (not s.sided || is_preferred s.declarations t.kind)
     && (not s.own || bytes_eq t.file s.from.now)
 
 -- it is shown at this one
@@ -40,8 +39,8 @@ if_some narrow wide ts = if list_any (shows narrow) ts then narrow else wide
 abbrev pub viewed : Sight → List Tag → Sight
 viewed s ts = if_some (record s { viewed = true }) s ts
 
-abbrev pub defined : Sight → List Tag → Sight
-defined s ts = if_some (record s { defined = true }) s ts
+abbrev pub sided : Sight → List Tag → Sight
+sided s ts = if_some (record s { sided = true }) s ts
 
 abbrev pub own_or_near : Sight → List Tag → Sight
 own_or_near s ts = if_some (record s { own = true }) (record s { near = true }) ts

@@ -1,6 +1,6 @@
 //! The names of functions, and what the texts of macros name, worked out by hand.
 use crate::tests::labels::source_of;
-use cb_names::{Arguments, MacroName, function_names, macro_at, takes_member};
+use cb_names::{Arguments, Code, MacroName, macro_at, takes_member};
 use cb_scan::Span;
 use std::test::Fail;
 
@@ -43,7 +43,8 @@ fn names(
 fn a_function_has_names_and_arguments(rt: HostRuntime) -> Result<(), Fail> {
     let text = b"int a;\nint f(int b) __attribute__((c)) { return g(b, h(d)) + (e); }\nint i;";
     let source = source_of(&rt, text)?;
-    let Some(function) = function_names(rt.alloc(), &source, 12)? else {
+    let code = Code::new(rt.alloc(), &source)?;
+    let Some(function) = code.function_names(rt.alloc(), 12)? else {
         return Err(Fail::new("no function"));
     };
     assert!(rt; function.extent().start == 7 && function.extent().end == 67);
@@ -63,7 +64,8 @@ fn a_function_that_ends_early_is_not_whole(rt: HostRuntime) -> Result<(), Fail> 
     let text = b"int f(int a) {\n if (a) {\n}\n return a;\n}\nint g(void) { return 0; }";
     let source = source_of(&rt, text)?;
     for (place, whole) in [(10, false), (45, true)] {
-        let Some(function) = function_names(rt.alloc(), &source, place)? else {
+        let code = Code::new(rt.alloc(), &source)?;
+        let Some(function) = code.function_names(rt.alloc(), place)? else {
             return Err(Fail::new("no function"));
         };
         assert!(rt; function.is_whole() == whole);
@@ -75,13 +77,15 @@ fn a_function_that_ends_early_is_not_whole(rt: HostRuntime) -> Result<(), Fail> 
 fn names_of_which_the_rules_are_not_sure(rt: HostRuntime) -> Result<(), Fail> {
     let text = b"void f(int a) { struct { int b; } s; s = (T){ c: a }; p = &&d; d: ; }";
     let source = source_of(&rt, text)?;
-    let Some(function) = function_names(rt.alloc(), &source, 11)? else {
+    let code = Code::new(rt.alloc(), &source)?;
+    let Some(function) = code.function_names(rt.alloc(), 11)? else {
         return Err(Fail::new("no function"));
     };
     assert!(rt; begin_at(function.unsure(), &[29, 46, 60]));
     let text = b"void f(void) { enum { a, b } c; { d: goto d; } }";
     let source = source_of(&rt, text)?;
-    let Some(function) = function_names(rt.alloc(), &source, 7)? else {
+    let code = Code::new(rt.alloc(), &source)?;
+    let Some(function) = code.function_names(rt.alloc(), 7)? else {
         return Err(Fail::new("no function"));
     };
     assert!(rt; function.unsure().is_empty());

@@ -1,5 +1,5 @@
 //! Labels, worked out by hand.
-use cb_names::local_at;
+use cb_names::Code;
 use cb_scan::{Source, Span};
 use std::test::Fail;
 
@@ -18,7 +18,8 @@ fn names(
     uses: &[u32],
 ) -> Result<bool, Fail> {
     let source = source_of(rt, text)?;
-    let Some(label) = local_at(rt.alloc(), &source, place)? else {
+    let code = Code::new(rt.alloc(), &source)?;
+    let Some(label) = code.local_at(rt.alloc(), place)? else {
         return Ok(uses.is_empty());
     };
     let starts = label.uses();

@@ -1,12 +1,12 @@
 //! Parameters and local variables, worked out by hand.
 use crate::tests::labels::source_of;
-use cb_names::{Access, LocalUse, local_at};
+use cb_names::{Access, Code, LocalUse};
 use cb_scan::Span;
 use std::test::Fail;
 
 /// What is done with a name, by a letter: `N` if it is only declared, `W` if its declaration has a
 /// value.
-fn letter(one: LocalUse) -> u8 {
+pub(crate) fn letter(one: LocalUse) -> u8 {
     match one.access {
         Access::Named => b'N',
         Access::Written if one.declares => b'W',
@@ -26,7 +26,8 @@ fn uses(
     letters: &[u8],
 ) -> Result<bool, Fail> {
     let source = source_of(rt, text)?;
-    let Some(local) = local_at(rt.alloc(), &source, place)? else {
+    let code = Code::new(rt.alloc(), &source)?;
+    let Some(local) = code.local_at(rt.alloc(), place)? else {
         return Ok(false);
     };
     let found = local.uses();
@@ -47,7 +48,8 @@ fn uses(
 /// Whether the name at a place means nothing in a function alone.
 fn is_free(rt: &HostRuntime, text: &[u8], place: u32) -> Result<bool, Fail> {
     let source = source_of(rt, text)?;
-    Ok(local_at(rt.alloc(), &source, place)?.is_none())
+    let code = Code::new(rt.alloc(), &source)?;
+    Ok(code.local_at(rt.alloc(), place)?.is_none())
 }
 
 #[test]

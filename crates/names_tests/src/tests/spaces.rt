@@ -1,13 +1,14 @@
 //! Name spaces, worked out by hand.
 use crate::tests::labels::source_of;
-use cb_names::{Space, space_at};
+use cb_names::{Code, Space};
 use std::test::Fail;
 
 /// Whether each of these places has its name space, or no name.
 fn spaces(rt: &HostRuntime, text: &[u8], wanted: &[(u32, Option<Space>)]) -> Result<bool, Fail> {
     let source = source_of(rt, text)?;
+    let code = Code::new(rt.alloc(), &source)?;
     for one in wanted {
-        if space_at(rt.alloc(), &source, one.0)? != one.1 {
+        if code.space_at(rt.alloc(), one.0)? != one.1 {
             return Ok(false);
         }
     }

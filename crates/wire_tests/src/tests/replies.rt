@@ -52,10 +52,11 @@ fn a_client_is_welcomed(rt: HostRuntime) {
     assert!(rt; put_welcome(&mut sink, id, Encoding::Utf16, false, b"1.2\"").is_ok());
     assert_eq!(rt;
         written.as_slice(),
-        b"Content-Length: 461\r\n\r\n{\"jsonrpc\":\"2.0\",\"id\":0,\"result\":\
+        b"Content-Length: 488\r\n\r\n{\"jsonrpc\":\"2.0\",\"id\":0,\"result\":\
           {\"capabilities\":{\"positionEncoding\":\"utf-16\",\
           \"textDocumentSync\":{\"openClose\":true,\"change\":2,\"save\":true},\
           \"hoverProvider\":true,\"completionProvider\":{},\"definitionProvider\":true,\
+          \"declarationProvider\":true,\
           \"referencesProvider\":true,\"documentHighlightProvider\":true,\
           \"documentSymbolProvider\":true,\"workspaceSymbolProvider\":true,\
           \"renameProvider\":true,\"callHierarchyProvider\":true,\

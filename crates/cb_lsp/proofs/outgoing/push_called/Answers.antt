@@ -1,4 +1,4 @@
-use Rattle.std.proofs.Common.{◌≡◌, ◌++◌, ◌∙◌, ap, arith, length, map}
+use Rattle.std.proofs.Common.{false, ◌≡◌, ◌++◌, ◌∙◌, ap, arith, length, map}
 use Rattle.std.specs.Prelude.{Some}
 use Rattle.std.proofs.lemmas.List.{length-map}
 use Rattle.cb_names.specs.declared.space.Space.TheVariants.{Called}
@@ -14,7 +14,7 @@ returns-in-None c =
     let calls = callee_rows c.args.group.now.calls.now in
     let rows = c.rows.called.items in
     let meant = c.new-rest.ensures
-    ∙ ap (λ ts. shown c.args.file.now (kinds_at (Some Called) ts) ts) c.definitions-rows.ensures in
+    ∙ ap (λ ts. shown c.args.file.now (kinds_at (Some Called) ts) false ts) c.definitions-rows.ensures in
     let size : length (called_rows rows) ≡ length rows = length-map rows called_in in
     made-all 1000 (called_rows rows) (map (λ t. (t, calls)) (callables_left c.rows.rest)) _
     (c.rows.invariant.all
@@ -26,7 +26,7 @@ returns c =
     let calls = callee_rows c.args.group.now.calls.now in
     let rows = c.rows.called.items in
     let meant = c.new-rest.ensures
-    ∙ ap (λ ts. shown c.args.file.now (kinds_at (Some Called) ts) ts) c.definitions-rows.ensures in
+    ∙ ap (λ ts. shown c.args.file.now (kinds_at (Some Called) ts) false ts) c.definitions-rows.ensures in
     let size : length (called_rows rows) ≡ length rows = length-map rows called_in in
     made-most 1000 (called_rows rows) (map (λ t. (t, calls)) (callables_left c.rows.rest)) _
     (c.rows.invariant.all

@@ -1,4 +1,4 @@
-use Rattle.std.proofs.Common.{◌≡◌, ◌∙◌, ap}
+use Rattle.std.proofs.Common.{◌∙◌, ap}
 use Rattle.cb_names.specs.FunctionNames.{names_over}
 use Rattle.cb_names.specs.Functions.{body_of}
 use Rattle.cb_names.proofs.names.names_by.Goals as goal

@@ -14,7 +14,7 @@ returns g c =
     ++ (escape (c.encoding_name.ensures i)
     ++ (codes "\",\"textDocumentSync\":{\"openClose\":true,\"change\":2,\"save\":true},"
     ++ (codes "\"hoverProvider\":true,\"completionProvider\":{},"
-    ++ (codes "\"definitionProvider\":true,"
+    ++ (codes "\"definitionProvider\":true,\"declarationProvider\":true,"
     ++ (codes "\"referencesProvider\":true,\"documentHighlightProvider\":true,"
     ++ (codes "\"documentSymbolProvider\":true,\"workspaceSymbolProvider\":true,"
     ++ (codes "\"renameProvider\":"

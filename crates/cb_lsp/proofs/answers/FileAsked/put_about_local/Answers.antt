@@ -22,6 +22,18 @@ returns-in-Definition g c =
     (list_of (definition_places f.forms.root.now f.forms.encoding f.name.now f.source.now d))))))
     c.definition.ensures call.ensures)
 
+pub returns-in-Declaration : goal.returns-in-Declaration
+returns-in-Declaration g c =
+    let f = c.args.self.now in
+    let call = c.put_local_definition-in-Declaration in
+    subst (λ q. Puts c.args.out.now call.new.out call.result
+    (frame (value_text (result_reply (id_json c.args.id)
+    (local_answer (client_in f.forms) f.name.now f.source.now c.args.own.now c.args.word q)))))
+    (sym c.in-Declaration.is) (subst (λ d. Puts c.args.out.now call.new.out call.result
+    (frame (value_text (result_reply (id_json c.args.id)
+    (list_of (definition_places f.forms.root.now f.forms.encoding f.name.now f.source.now d))))))
+    c.definition-in-Declaration.ensures call.ensures)
+
 pub returns-in-Hover : goal.returns-in-Hover
 returns-in-Hover g c =
     let f = c.args.self.now in

@@ -4,12 +4,11 @@ use Rattle.cb_wire.specs.Messages.{id_json}
 use Rattle.cb_wire.specs.Texts.{frame}
 use Rattle.cb_wire.specs.Trees.{result_reply}
 use Rattle.cb_wire.specs.Values.{value_text}
-use Rattle.cb_names.specs.Meanings.{local_at}
-use Rattle.cb_lsp.specs.Answers.{list_of, name_answer, place_answer, space_asked}
+use Rattle.cb_lsp.specs.Answers.{list_of, named_answer, place_answer}
 use Rattle.cb_lsp.specs.Headers.{header_files}
 use Rattle.cb_lsp.specs.Messages.{result_unless}
+use Rattle.cb_lsp.specs.Parameters.{parameter_there}
 use Rattle.cb_lsp.specs.Symbols.{file_place}
-use Rattle.cb_lsp.specs.Words.{word_at}
 use Rattle.cb_lsp.specs.steps.Located.{client_in}
 use Rattle.cb_lsp.proofs.answers.FileAsked.put_about_place.Goals as goal
 
@@ -36,7 +35,6 @@ returns-in-None g c =
     let w = f.desk.now.timeline.present in
     let at = c.args.place in
     let q = c.args.question in
-    let word = word_at f.source.now at in
     let call = c.put_about_name in (
       call.ensures.0,
       subst (λ o. Puts c.args.out.now call.new.out call.result
@@ -45,7 +43,7 @@ returns-in-None g c =
           c.in-None.ensures
           (subst (λ fs. Puts c.args.out.now call.new.out call.result
           (frame (value_text (result_unless call.ensures.0 (id_json c.args.id)
-          (name_answer (client_in f.forms) w f.name.now f.source.now
-          (local_at f.source.now at) (space_asked fs.defs f.source.now at word q) word q)))))
+          (named_answer (client_in f.forms) w f.name.now f.source.now fs.defs at
+          (parameter_there fs.defs f.source.now at) q)))))
           c.requires.facts call.ensures.1),
     )

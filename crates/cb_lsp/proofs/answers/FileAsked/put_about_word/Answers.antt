@@ -19,6 +19,16 @@ returns-in-Definition g c =
     c.args.word q)))))
     (sym c.in-Definition.is) call.ensures
 
+pub returns-in-Declaration : goal.returns-in-Declaration
+returns-in-Declaration g c =
+    let f = c.args.self.now in
+    let call = c.put_places-in-Declaration in
+    subst (λ q. Puts c.args.out.now call.new.out call.result
+    (frame (value_text (result_reply (id_json c.args.id)
+    (word_answer (client_in f.forms) f.desk.now.timeline.present f.name.now f.source.now c.args.space
+    c.args.word q)))))
+    (sym c.in-Declaration.is) call.ensures
+
 pub returns-in-Hover : goal.returns-in-Hover
 returns-in-Hover g c =
     let f = c.args.self.now in

@@ -20,7 +20,8 @@ returns-in-Some g c =
     let found = nearest_left c.shown.result in
     subst (λ o. Puts c.args.out.now c.put_list.new.out c.put_list.result
     (frame (value_text (result_reply (id_json c.args.id)
-    (places_of_word (client_in f.forms) w f.name.now f.source.now c.args.space o)))))
+    (places_of_word (client_in f.forms) w f.name.now f.source.now c.args.space
+    c.args.declarations o)))))
     (sym c.in-Some.is)
     (subst (λ ts. Puts c.args.out.now c.put_list.new.out c.put_list.result
     (frame (value_text (result_reply (id_json c.args.id) (list_of (map place ts))))))
@@ -34,5 +35,6 @@ returns-in-None g c =
     let f = c.args.self.now in
     subst (λ o. Puts c.args.out.now c.put_list-in-None.new.out c.put_list-in-None.result
     (frame (value_text (result_reply (id_json c.args.id) (places_of_word (client_in f.forms)
-    f.desk.now.timeline.present f.name.now f.source.now c.args.space o)))))
+    f.desk.now.timeline.present f.name.now f.source.now c.args.space
+    c.args.declarations o)))))
     (sym c.in-None.is) (c.put_list-in-None.ensures [] refl)

@@ -2,7 +2,7 @@ use Rattle.std.proofs.Common.{◌∙◌, ap, false, filter, refl, sym}
 use Rattle.cb_tags.specs.TagLines.{Tag}
 use Rattle.cb_lsp.specs.Nearest.{shown, shown_of, takes}
 use Rattle.cb_lsp.specs.declared.nearest.Sight.{Sight}
-use Rattle.cb_lsp.specs.steps.Nearby.{defined, left_from, own_or_near}
+use Rattle.cb_lsp.specs.steps.Nearby.{left_from, own_or_near, sided}
 use Rattle.cb_lsp.proofs.NearestLeft.{left-shown, left-wide}
 use Rattle.cb_lsp.proofs.nearest.Nearest.new.Goals as goal
 
@@ -13,16 +13,17 @@ returns-then-is_members c =
     let all : Sight = record {
       from = c.args.from;
       kinds = ks;
+      declarations = c.args.declarations;
       viewed = false;
-      defined = false;
+      sided = false;
       own = false;
       near = false;
     } in
     c.seen.ensures
-    ∙ left-wide all (record { viewed = refl; defined = refl; own = refl; near = refl }) ts
-    ∙ ap (λ b. shown_of c.args.from.now b (filter (λ (t : Tag). takes ks t.kind) ts))
+    ∙ left-wide all (record { viewed = refl; sided = refl; own = refl; near = refl }) ts
+    ∙ ap (λ b. shown_of c.args.from.now b c.args.declarations (filter (λ (t : Tag). takes ks t.kind) ts))
     (sym (sym c.is_members.ensures ∙ c.if-is_members.true))
-    ∙ ap (λ k. shown c.args.from.now k ts) c.kinds_at-kinds.ensures
+    ∙ ap (λ k. shown c.args.from.now k c.args.declarations ts) c.kinds_at-kinds.ensures
 
 pub returns : goal.returns
 returns c =
@@ -31,15 +32,16 @@ returns c =
     let all : Sight = record {
       from = c.args.from;
       kinds = ks;
+      declarations = c.args.declarations;
       viewed = false;
-      defined = false;
+      sided = false;
       own = false;
       near = false;
     } in
     c.seen-2.ensures
     ∙ ap (λ s. left_from s ts) (c.own_or_near-sight.ensures
-    ∙ ap (λ s. own_or_near s ts) (c.defined.ensures ∙ ap (λ s. defined s ts) c.viewed.ensures))
-    ∙ left-shown all (record { viewed = refl; defined = refl; own = refl; near = refl }) ts
-    ∙ ap (λ b. shown_of c.args.from.now b (filter (λ (t : Tag). takes ks t.kind) ts))
+    ∙ ap (λ s. own_or_near s ts) (c.sided.ensures ∙ ap (λ s. sided s ts) c.viewed.ensures))
+    ∙ left-shown all (record { viewed = refl; sided = refl; own = refl; near = refl }) ts
+    ∙ ap (λ b. shown_of c.args.from.now b c.args.declarations (filter (λ (t : Tag). takes ks t.kind) ts))
     (sym (sym c.is_members.ensures ∙ c.if-is_members.false))
-    ∙ ap (λ k. shown c.args.from.now k ts) c.kinds_at-kinds.ensures
+    ∙ ap (λ k. shown c.args.from.now k c.args.declarations ts) c.kinds_at-kinds.ensures

@@ -1,4 +1,4 @@
-use Rattle.std.proofs.Common.{◌∙◌, Option, Some, false, subst, sym, true}
+use Rattle.std.proofs.Common.{ap, ◌∙◌, Option, Some, false, subst, sym, true}
 use Rattle.cb_names.specs.FunctionNames.{FunctionNames, function_names}
 use Rattle.cb_scan.specs.declared.lex.piece.Span.{Span}
 use Rattle.cb_wire.specs.Messages.{id_json}
@@ -38,7 +38,8 @@ returns-in-Ok-Some g c =
           (subst (λ (n : Option FunctionNames). Replies (g.D.Disk.finds c.args.disk.now) (reply_unless put.0
           (id_json c.args.id) (renamed_local put.1 (client_in f.asked.forms) (work_in f) f.asked.name.now
           f.asked.source.now f.new_name.now c.args.own.now (Some c.in-Some.definition) n)) c.args.out.now
-          call.new.out call.result) (sym c.in-Ok-Some.field-0-is ∙ c.in-Ok-Some.ensures.value) put.2),
+          call.new.out call.result) (sym c.in-Ok-Some.field-0-is ∙ c.in-Ok-Some.ensures
+          ∙ ap (λ t. function_names t c.args.place) c.requires.code) put.2),
     )
 
 pub returns-in-Ok-None : goal.returns-in-Ok-None
@@ -55,7 +56,8 @@ returns-in-Ok-None g c =
           (subst (λ (n : Option FunctionNames). Replies (g.D.Disk.finds c.args.disk.now) (reply_unless false
           (id_json c.args.id) (renamed_local quiet (client_in f.asked.forms) (work_in f) f.asked.name.now
           f.asked.source.now f.new_name.now c.args.own.now (Some c.in-Some.definition) n)) c.args.out.now
-          call.new.out call.result) (sym c.in-Ok-None.field-0-is ∙ c.in-Ok-None.ensures.value) (call.ensures, tt)),
+          call.new.out call.result) (sym c.in-Ok-None.field-0-is ∙ c.in-Ok-None.ensures
+          ∙ ap (λ t. function_names t c.args.place) c.requires.code) (call.ensures, tt)),
     )
 
 pub returns-in-Err : goal.returns-in-Err
