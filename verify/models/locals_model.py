@@ -1,4 +1,5 @@
 """What a name means in its function alone, as `cbrowse` finds it: labels, parameters, variables.
+A parameter of a macro means something in the line of its macro alone.
 
 The rules are those of `names_model.py`, within what `docs/NAMES.md` names as limits: attributes
 that are left out name nothing, a structure in a function has no members, each part of an
@@ -24,7 +25,8 @@ class LocalUse(NamedTuple):
 
 
 class Local(NamedTuple):
-    """What a name means in its function: its name, its definition and its uses."""
+    """What a name means in its function, or in the line of its macro: its name, its definition and
+    its uses."""
 
     name: bytes
     definition: Optional[int]
@@ -78,21 +80,22 @@ class Names(names_model.Text):
         )
 
     def is_local(self, place):
-        """Whether a name means something in its function alone."""
+        """Whether a name means something in its function alone, or in the line of its macro."""
         thing = self.binding(place)
         if place in self.left_out:
             return False
         is_variable = thing.kind == "local" and thing.space == "ordinary"
-        return thing.kind == "label" or (is_variable and self.is_in_function(thing))
+        is_other = thing.kind in ("label", "parameter")
+        return is_other or (is_variable and self.is_in_function(thing))
 
     def local(self, token):
-        """What a name means in its function."""
+        """What a name means in its function, or in the line of its macro."""
         thing = self.binding(token.place)
         declared = [it for it in self.definitions.get(thing, []) if it not in self.left_out]
-        behind = 1 if thing.kind == "label" else bisect.bisect_right(declared, token.place)
+        behind = bisect.bisect_right(declared, token.place) if thing.kind == "local" else 1
         seen = declared[:behind]
         uses = [
-            LocalUse(place, letter, place in declared)
+            LocalUse(place, letter, self.declares(*self.stream_at(place)))
             for place, letter in self.uses(thing)
             if place not in self.left_out
         ]
@@ -104,9 +107,14 @@ def names_of(text):
     return Names(text)
 
 
+def may_have_locals(text):
+    """Whether a text has what a function or a macro begins with."""
+    return b"{" in text or b"define" in text
+
+
 def local_at(text, place):
     """The local that the name at a place names, or none."""
-    if b"{" not in text:
+    if not may_have_locals(text):
         return None
     names = names_of(text)
     token = names.token_at(place)
@@ -144,7 +152,7 @@ def space_at(text, place):
 
 def locals_of(text):
     """The names that name a local, each a token."""
-    if b"{" not in text:
+    if not may_have_locals(text):
         return []
     names = names_of(text)
     return [token for token in names.tokens if names.is_local(token.place)]

@@ -200,6 +200,13 @@ class Stream:
         return index
 
 
+class LineStream(Stream):
+    """The tokens of one directive, of which none is left out."""
+
+    def find_hard(self):
+        self.hard_last, self.hard_first = {}, {}
+
+
 # ---- a text
 
 
@@ -211,7 +218,7 @@ class Text:
         parts = parts_of(text)
         self.split, self.code = parts.code, Stream(text, parts.code.tokens)
         self.directives = [
-            (line, Stream(text, line.tokens)) for line in parts.directives if line.tokens
+            (line, LineStream(text, line.tokens)) for line in parts.directives if line.tokens
         ]
         self.index = {token.place: index for index, token in enumerate(self.code.tokens)}
         self.scopes, self.declared = [], {}
@@ -375,7 +382,8 @@ class Text:
         self.spaces_of_tokens.append(token)
 
     def parameters_of_macro(self, line, stream):
-        """The names between the `(` and the first `)` of a macro with arguments."""
+        """The names between the `(` and the first `)` of a macro with arguments, or the end of the
+        line, each with its first place."""
         tokens = stream.tokens
         if not (
             line.own_word == b"define"
@@ -386,12 +394,13 @@ class Text:
         ):
             return {}
         texts = [token.text for token in tokens]
-        last = texts.index(b")", 4) if b")" in texts[4:] else 4
+        last = texts.index(b")", 4) if b")" in texts[4:] else len(texts)
         names = {}
         for token in tokens[4:last]:
             if token.is_name:
                 names.setdefault(token.text, token.place)
-        self.parameters_of[line.tokens[0].place] = (line, names, tokens[last].place if names else 0)
+        end = tokens[last].place if last < len(tokens) else line.end
+        self.parameters_of[line.tokens[0].place] = (line, names, end)
         return names
 
     def space_in_directive(self, line, stream, index, names):

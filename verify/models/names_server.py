@@ -32,11 +32,6 @@ class NamesServer(Server):
     def make_tree(self, files):
         return Tree(files, self.reading)
 
-    def result_of(self, method, params):
-        if method == "textDocument/declaration" and self.phase == "running":
-            return self.declaration(params)
-        return super().result_of(method, params)
-
     # ---- what is asked
 
     def asked_name(self, params):

@@ -622,6 +622,7 @@ class Server:
             "initialize": self.initialize,
             "shutdown": self.shutdown,
             "textDocument/definition": self.definition,
+            "textDocument/declaration": self.declaration,
             "textDocument/hover": self.hover,
             "textDocument/references": self.references,
             "textDocument/prepareRename": self.prepare_rename,
@@ -809,7 +810,7 @@ class Server:
         if method.startswith("callHierarchy/"):
             return self.item_of(method, params)[0], method == "callHierarchy/incomingCalls"
         is_of_uses = method in ("textDocument/references", "textDocument/rename")
-        asks = "definition", "hover", "prepareCallHierarchy", "references", "rename"
+        asks = "definition", "declaration", "hover", "prepareCallHierarchy", "references", "rename"
         if method not in [f"textDocument/{it}" for it in asks]:
             return None, False
         if method == "textDocument/references":
@@ -841,17 +842,18 @@ class Server:
         }
         return named, private
 
-    def shown(self, file, text, place, word):
-        """The definitions that are shown of a word, in the order in which they are."""
+    def shown(self, file, text, place, word, declared=False):
+        """The definitions that are shown of a word, in the order in which they are; those that
+        declare it alone, if they are asked for and there is one."""
         if word is None:
             return []
         name = text[word[0] : word[1]]
         members = [it for it in self.named(name)[0] if it.definition.kind == b"m"]
         if any(it.file == file and self.is_word_of(it, word) for it in members):
             return self.shown_in(file, name, "member")
-        return self.shown_in(file, name, space_at(text, place))
+        return self.shown_in(file, name, space_at(text, place), declared)
 
-    def shown_in(self, file, name, space):
+    def shown_in(self, file, name, space, declared=False):
         """The same of a name in a space."""
         named, kinds = self.named(name)[0], KINDS_OF_SPACES[space]
         wanted = next((one for one in kinds if of_kinds(named, one)), kinds[-1])
@@ -859,7 +861,7 @@ class Server:
         if wanted == b"m":
             return found
         seen = [it for it in found if it.file == file or not is_private(it)] or found
-        seen = [it for it in seen if it.definition.kind not in (b"x", b"p")] or seen
+        seen = [it for it in seen if (it.definition.kind in (b"x", b"p")) == declared] or seen
         own = [it for it in seen if it.file == file]
         return own or sorted(seen, key=lambda it: min(apart(file, it.file), 16))
 
@@ -914,7 +916,10 @@ class Server:
             return None, b"", 0
         return file, text, place_of(text, line, column, self.is_utf16)
 
-    def definition(self, params):
+    def declaration(self, params):
+        return self.definition(params, True)
+
+    def definition(self, params, declared=False):
         file, text, place = self.asked(params)
         if file is None:
             return b"null"
@@ -927,7 +932,7 @@ class Server:
             defined = [] if local.definition is None else [local.definition]
             return self.spans_of(file, local.name, defined)
         word = word_at(text, place)
-        found = self.shown(file, text, place, word)
+        found = self.shown(file, text, place, word, declared)
         return listed(self.location(it.file, self.range_of(it)) for it in found)
 
     def files_of_header(self, file, name):
