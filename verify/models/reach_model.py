@@ -282,12 +282,11 @@ class Tree:
         )
 
     def declaration(self, file, place):
-        """The external declarations and prototypes of a name that are in view; else what its
-        definition is."""
+        """The external declarations and prototypes of a name that are in view, or, where nothing is,
+        those of all files; else what its definition is."""
         thing = self.text(file).binding(place)
         if thing.kind == "free":
-            found = [one for one in self.candidates(file, place) if self.is_in_view(file, one)]
-            declared = self.ordered(file, found, True)
+            declared = self.ordered(file, self.candidates(file, place), True)
             if declared:
                 return [(one.file, one.place) for one in declared]
         return self.definition(file, place)
