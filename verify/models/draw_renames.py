@@ -3,10 +3,12 @@
 They are those of `draw_names.py` with more: macros that lead to one another, up to 18 deep, and end
 with a name, a parameter, a member, a tag, a string or a pasted name; functions that name them, with
 locals as arguments; directives and includes in functions; bytes beside names that make a rename
-unsafe.
+unsafe; macros that use their parameters in many ways, on joined lines and in functions, too.
 """
 
 from __future__ import annotations
+
+import re
 
 from draw_names import DrawNames
 
@@ -27,6 +29,22 @@ LEAVES = [
 PARAMETERS = [
     "", "x", "e", "x, e", "e, x", "a", "b, x", "x, a", "x, ...", "...", "x...", " e , x ",
     "offsetof", "S, x", "M", "x", "x, e",
+]
+LISTS = [
+    "a", "b", "x", "e", "out", "q", "a, b", "x, e", "b, a, x", "k, l", "a, a", "x, e, x", "x, ...",
+    "a...", " a , /**/ b ", "a,\\\n b", "a\\\r\n, x", "a b", "a = 1", "b[2] = a", "a(b)", "f, g",
+    "a(b) x", "e, M", "T, a", "F", "int, a", "__b, c", "a, b x", "define, a", "a, b)", "a$, b",
+]
+# how a macro uses its parameters: % stands for a name
+USES = [
+    "%", "%", "(%)", "% = %", "% += %", "%++", "--%", "&%", "&&%", "*%", "*%++", "!&%", "%[1] = %",
+    "(%)[%]++", "%->%", "%.% = 1", "x->%", "x.%", "e. . .%", "#%", "# %", "% ## %", "##%", "%##",
+    "1 & %", "'c' & %", "\"s\" & %", ") & %", "] & %", "% & %", "struct %", "enum % {", "? % : %",
+    "goto %; %:", "int % = %;", "% == %", "sizeof %", "M(%)", "S(%, 1)", "F((%))", "G (S(%))",
+    "FOO[%]", "f(%)", "%(%)", "EACH(%", "S(1) %", "offsetof(T, %)", "__attribute__((%))", "%: %",
+    "% __attribute__((x)) = 1", "M __attribute__((x)) (%)", "typeof(%)", "{ .% = % }", "[%", "%]",
+    "(", ")", "{", "}", "%$", "@%", "'%'", "L\"%\"", "/**/%/**/", "%\u00e9", "\\\n%", "%\\\n",
+    "\\\n % ", "\\\r\n % = ", "% // %", ", %", "%, %", "% <<= 1", "- -%", "+ +%++",
 ]
 ARGUMENTS = [
     "a", "b", "c", "x", "out", "1, a", "a, b", "b, a", "(a)", "g(b)", "a[b]", "&a", "*b++",
@@ -72,7 +90,8 @@ class DrawRenames(DrawNames):
 
     def tidy_text(self) -> bytes:
         """A text of plain functions; in most are a few things that can hinder a rename."""
-        kinds = self.chain, self.macro, self.tangle, self.other, *[self.strange] * 4
+        kinds = [self.chain, self.macro, self.tangle, self.other]
+        kinds += [self.strange] * 4 + [self.listed] * 3
         lines = [self.one(*kinds)() for _ in range(self.one(0, 1, 1, 2, 3, 4))]
         for number in range(self.one(1, 1, 2, 3)):
             made = [self.one(*PLAIN) for _ in range(self.one(1, 2, 3, 5, 8))]
@@ -104,14 +123,15 @@ class DrawRenames(DrawNames):
         return f"{self.one(*ODD)};"
 
     def directive(self):
-        return f"\n{self.one(*DIRECTIVES)}\n"
+        made = self.listed() if self.chance(0.15) else self.one(*DIRECTIVES)
+        return f"\n{made}\n"
 
     def attribute(self):
         return self.one(*ATTRIBUTES)
 
     def item(self):
         if self.depth == 0 and self.chance(0.35):
-            return self.one(self.chain, self.macro, self.tangle)()
+            return self.one(self.chain, self.macro, self.tangle, self.listed)()
         return super().item()
 
     def name(self):
@@ -153,6 +173,17 @@ class DrawRenames(DrawNames):
         text = self.one("#x", "x ## 1", "(e)->x", "offsetof(T, x)", "struct x *", "goto x", "x: ;",
                         "S(x)", "f(e.x)", "1 ? x : e", "e ## x", "F(x)")  # fmt: skip
         return f"#define {self.one(*MACROS)}({self.one('x', 'x, e', 'x, ...')}) {text}"
+
+    def listed(self):
+        """A macro that uses its parameters, often on more lines than one."""
+        given = self.one(*LISTS)
+        names = re.findall(r"[A-Za-z_]\w*", given) * 3 + [self.name()]
+        uses = [self.one(*USES) for _ in range(self.one(1, 2, 3, 5, 8))]
+        text = self.one(" ", " ", " ", " \\\n\t", " \\\r\n").join(uses)
+        text = re.sub("%", lambda _: self.one(*names), text)
+        blank = self.one(*[""] * 12, " ", "\\\n", "/**/")
+        end = self.one(*[")"] * 12, "")
+        return f"#define {self.one(*MACROS, 'k')}{blank}({given}{end} {text}"
 
     def tangle(self):
         """Macros that name one another, some more than once and some in a circle."""

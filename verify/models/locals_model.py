@@ -3,8 +3,8 @@ A parameter of a macro means something in the line of its macro alone.
 
 The rules are those of `names_model.py`, within what `docs/NAMES.md` names as limits: attributes
 that are left out name nothing, a structure in a function has no members, each part of an
-enumeration begins with an enumerator, and a value counts only directly behind the name that is
-declared.
+enumeration begins with an enumerator, a value counts only directly behind the name that is
+declared, and what stands before `a.b` or `a->b` does nothing to `b`.
 """
 
 from __future__ import annotations
@@ -69,6 +69,10 @@ class Names(names_model.Text):
         while stream.text(end) == b"[" and stream.pair[end] >= 0:
             end = stream.following(stream.pair[end])
         return self.is_assigned(stream, end)
+
+    def start_of_chain(self, stream, index):
+        """A name stands for itself: of what is written only the tokens beside a name tell."""
+        return index
 
     def is_in_function(self, thing):
         """Whether the scope of a thing is in a function: else it is a list of the file."""

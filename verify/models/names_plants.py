@@ -537,6 +537,20 @@ class OldMayBeType(Tree):
         return new in self.macros or thing.name in self.macros or bool(self.of_kinds(new, b"t"))
 
 
+class ListIsArguments(Tree):
+    """The list of a macro is taken for arguments of it."""
+
+    def called_around(self, text, use, thing):
+        return super().called_around(text, use, thing._replace(space="ordinary"))
+
+
+class LineIsForgotten(Tree):
+    """A name in the line of a macro may be the new one of its parameter."""
+
+    def is_used(self, file, thing, new):
+        return getattr(thing, "kind", "") != "parameter" and super().is_used(file, thing, new)
+
+
 class OneSideIsOdd(Tree):
     """The byte before a name is not looked at."""
 
@@ -615,7 +629,8 @@ RENAME_PLANTS = [
     FirstTextAlone,
     OwnTextAlone, LongChainsReachNothing, NameByName, AttributeIsForgotten, DirectiveIsForgotten,
     HeadIsForgotten, InnermostMacro, MembersAreTaken, LastMacro, ArgumentsFirst, OldMayBeType,
-    OneSideIsOdd, EarlyEndIsForgotten, AllIsSure, OutsideFirst, LabelStandsAlone,
+    OneSideIsOdd, EarlyEndIsForgotten, AllIsSure, OutsideFirst, LabelStandsAlone, ListIsArguments,
+    LineIsForgotten,
     *map(with_macros, [
         MembersCount, TagsCount, DesignatorIsMember, ParametersCount, PastedIsPlain, ArgumentsStay,
     ]),

@@ -9,22 +9,22 @@
 Session number n has the seed n. It has files of the command line or none, a profile, bounds and a
 root, and then 3 to 60 messages, more often those that do something where the session stands:
 documents are opened, changed as a whole and in parts, saved and closed, files are deleted and, in
-some sessions, read again from a folder. Requests ask at names, often those of labels, parameters
-and variables, at headers and at any other place, in both encodings, for lists and trees. The folder
-holds the texts of the files, or other ones, and links, hard links, folders and pipes. In some
-sessions it is written to between two messages, with an event or without: files change, vanish and
-come back, or get a second name. Clients can be asked for events or not. Some sessions have more
-files of one name than are read again. Names are renamed, often where each file was opened or is on
-disk as the server has it, and then the client makes the edits: in each file the new name has to be
-used where the old one was, and nowhere else. In some sessions mostly locals are renamed, in texts
-with macros that reach them, directives in functions and odd bytes beside names, and the new name is
-often bad, taken or used. Texts have CR LF, lone CRs, byte order marks, letters
-outside ASCII, halves of surrogate pairs and, in files and in messages, bytes that are not UTF-8.
-Paths, of the command line too, have empty segments and dots, or lead outside the root. Some
-messages have wrong parameters, ids or members, and between changes of documents some are cut, are
-not JSON or are too large; some heads are odd, and some inputs end within a message. The input comes
-in random pieces. Standard output, standard error and the status are compared with
-`server_model.py`.
+some sessions, read again from a folder. Requests ask at names, often those of labels, parameters,
+variables and parameters of macros, at headers and at any other place, in both encodings, for lists
+and trees. The folder holds the texts of the files, or other ones, and links, hard links, folders
+and pipes. In some sessions it is written to between two messages, with an event or without: files
+change, vanish and come back, or get a second name. Clients can be asked for events or not. Some
+sessions have more files of one name than are read again. Names are renamed, often where each file
+was opened or is on disk as the server has it, and then the client makes the edits: in each file the
+new name has to be used where the old one was, and nowhere else. In some sessions mostly locals and
+parameters of macros are renamed, in texts with macros that reach them, directives in functions and
+odd bytes beside names, and the new name is often bad, taken or used. Texts have CR LF, lone CRs,
+byte order marks, letters outside ASCII, halves of surrogate pairs and, in files and in messages,
+bytes that are not UTF-8. Paths, of the command line too, have empty segments and dots, or lead
+outside the root. Some messages have wrong parameters, ids or members, and between changes of
+documents some are cut, are not JSON or are too large; some heads are odd, and some inputs end
+within a message. The input comes in random pieces. Standard output, standard error and the status
+are compared with `server_model.py`.
 
 At the first difference the seed, the input and both outputs are shown and the exit status is 1.
 Else lines tell how often each message was sent and each reply came. The self-test puts each wrong
@@ -52,7 +52,7 @@ from disk_model import Disk, Write, do_on_disk
 from draw import Draw
 from draw_names import DrawNames
 from draw_renames import DrawRenames
-from locals_model import locals_of
+from locals_model import locals_of, names_of
 from names_plants import RENAME_PLANTS
 from reach_model import Tree
 from server_model import MOST_BODY, Ended, Outcome, Server, frame, name_of_operand
@@ -75,8 +75,9 @@ STEPPING = "x/../y.c"  # a name that only a file of the command line may have
 CROWD = [f"n{number:02}.c" for number in range(68)]  # more than are read again for one answer
 CROWDED = ["int f(void) {{ return {}(1); }}\n", "#define f(x) {}(x)\n", "int f(int {}) {{\n}}\n",
            "int ab(void) {{ f({}); }}\n", "int g(void) {{ return {}(f(1)); }}\n"]
-WAYS = "definition", "hover", "prepareCallHierarchy", "references", "rename", "incoming"
-LOCAL_WAYS = [*WAYS[:5], "documentHighlight", "documentHighlight", "references", "prepareRename"]
+WAYS = ("definition", "declaration", "hover", "prepareCallHierarchy", "references", "rename",
+        "incoming")
+LOCAL_WAYS = [*WAYS[:6], "documentHighlight", "documentHighlight", "references", "prepareRename"]
 SYNC = b'{"id":"sync","method":"sync"}'  # its reply says that all before it was read
 DETOURS = ["//", "//", "/./", "/./", "///.//", "/../", "/x/../", "/.../", "/.x/"]
 NOT_NAMES = ["a b.c", "\u00e9.h", "a.cc", "a.txt", "", ".", "x" * 254 + ".c", "\n.c", "a.c?x"]
@@ -99,6 +100,9 @@ DEFINING = [
     "\tint (*{})(int {}) = {}, /*\u00e9\U0001f600*/ {}[2] = {{ {} }}; {}: {} += {};\n",
     "int {}(struct {} *{}) {{ struct {} {{ int {}; }} {}; enum {{ {} }}; return {}->{}.{}; }}\n",
     '\tasm("x" : "=r"({}) : {}); {} * {}; extern int {}; int {}(int {}); {} = {};\n',
+    "#define {}({}, {}) {} + ({} = {}->{}) \\\n\t{}({}, &{})\r\n",
+    "#define {}({}, ...) #{} {}##{} ({})[1]++ /*\U0001f600*/ {}.{}\n",
+    "extern int {}, {};\nint {}(int {});\nstatic int {}(void);\n",
 ]
 MARK = b"\xef\xbb\xbf"
 HALVES = ["\ud83d", "\ude00", "\udbff\udfff", "\ude00\ud83d", "\\ud83d\ud83d", "\\\\\ud800f"]
@@ -143,6 +147,11 @@ REFUSED_FOR = re.compile(
     | used \ from \ outside | not \ text | outside \ the \ root): \ (?: [^"\\] | \\. )+""",
     re.VERBOSE,
 )
+
+
+def is_of_macro(text: bytes, token) -> bool:
+    """Whether a name is that of a parameter of a macro."""
+    return names_of(text).binding(token.place).kind == "parameter"
 
 
 class Difference(Exception):
@@ -519,7 +528,8 @@ class Editor:
 
     def at_place(self) -> dict:
         uri = self.uri()
-        asks = "definition", "hover", "documentHighlight", "prepareCallHierarchy", "completion"
+        shows = "definition", "declaration", "hover"
+        asks = *shows, "documentHighlight", "prepareCallHierarchy", "completion"
         method = "textDocument/" + self.one(*asks)
         params = {"textDocument": {"uri": uri}, "position": self.position(uri)}
         return self.request(method, params)
@@ -547,23 +557,31 @@ class Editor:
         params["newName"] = self.one(*NEW_NAMES)
         return self.request(f"textDocument/{way}", params)
 
+    def local(self):
+        """A name that means something in its function or the line of its macro alone, and its file;
+        or none."""
+        files = self.server.world.files
+        found = [(file, it) for file, text in files.items() for it in locals_of(text)]
+        of_macros = [it for it in found if is_of_macro(files[it[0]], it[1])]
+        if of_macros and self.chance(0.4):
+            found = of_macros
+        return self.one(*found) if found else None
+
     def about_local(self) -> dict:
-        """A question at a name that means something in its function alone."""
-        files = self.server.world.files.items()
-        found = [(file, it) for file, text in files for it in locals_of(text)]
-        if not found:
+        """A question at such a name."""
+        found = self.local()
+        if found is None:
             return self.at_place()
-        file, token = self.one(*found)
+        file, token = found
         return self.at(file, token.place + self.one(0, 1, len(token.text)), self.one(*LOCAL_WAYS))
 
     def rename_local(self) -> dict:
         """A rename of a local, or the question whether there is one. Before it, a file that is not
         open is often opened."""
-        files = self.server.world.files
-        found = [(file, it) for file, text in files.items() for it in locals_of(text)]
-        if not found:
+        files, found = self.server.world.files, self.local()
+        if found is None:
             return self.at_place()
-        file, token = self.one(*found)
+        file, token = found
         way = "prepareRename" if self.chance(0.15) else "rename"
         asked = self.at(file, token.place + self.one(0, 0, 1, len(token.text)), way)
         if way == "rename":

@@ -282,8 +282,8 @@ class Tree:
         )
 
     def declaration(self, file, place):
-        """The external declarations and prototypes of a name that are in view, or, where nothing is,
-        those of all files; else what its definition is."""
+        """The external declarations and prototypes of a name that are in view, or of all files if
+        nothing is in view; else what its definition is."""
         thing = self.text(file).binding(place)
         if thing.kind == "free":
             declared = self.ordered(file, self.candidates(file, place), True)
