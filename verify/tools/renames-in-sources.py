@@ -1,11 +1,12 @@
 #!/usr/bin/python3
-"""Renames locals in real C sources by the language server, and checks what comes of it.
+"""Renames locals and parameters of macros in real C sources by the language server, and checks what
+comes of it.
 
     make && verify/tools/renames-in-sources.py FOLDER..
     verify/tools/renames-in-sources.py --renames 500 --first 7 FOLDER -- -D NDEBUG -I src
     verify/tools/renames-in-sources.py --taken FOLDER          to names of the file
 
-The program is started in each folder, with the C files below it. Locals are drawn at random from
+The program is started in each folder, with the C files below it. Names are drawn at random from
 files, of large ones more often, and the server is asked to rename each to a name that no file has,
 or with `--taken` to any name of its file. No file is written. What is checked:
 
@@ -17,7 +18,8 @@ compiler   where gcc compiles the file alone, it writes the same assembly for th
            system defines, it is counted by itself: no one can know such a macro by the files.
 libclang   where it parses the file, it takes each place that is edited for the same variable, and
            misses none. A place that it does not see has to be in lines that are passed over, in the
-           arguments of a macro, or in the list of a function in the old style.
+           arguments of a macro, or in the list of a function in the old style. Parameters of macros
+           it does not see at all.
 
 gcc and libclang (`python3-clang-14` and `libclang-common-14-dev` of Debian 12) are left out where
 they are missing. With `--model` the model is asked in place of the program. Each wrong rename is
@@ -377,7 +379,7 @@ class Folder:
         except Difference as difference:
             yield f"model: {difference.args[0]}"
         yield from self.compiled(name, places, token.text, new)
-        if clang:
+        if clang and names_of(text).binding(token.place).kind != "parameter":
             yield from self.beside_clang(name, places, token.text)
 
     def compiled(self, name: str, places: list[int], old: bytes, new: bytes):
