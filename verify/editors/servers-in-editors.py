@@ -23,6 +23,14 @@ ASCII. An editor that is not there is passed over. What they have to be told was
               their buffers have the new name, and one undo in each brings the old one back. So it
               is with a parameter, in its function alone. Where the new name cannot be taken, the
               reason is told and no buffer changes
+    Locals    at parameters of macros, of which one has its list on two joined lines, at labels, at
+              parameters in the old style and at names that an inner block hides. Other things have
+              the same names. The editor's own commands go to the definition, highlight the uses,
+              which nvim shows as reads and writes, and list them. A rename changes the macro or the
+              function alone, and one undo brings the old name back. Where the new name cannot be
+              taken, the reason is told and no buffer changes. So it is with a macro that is typed
+    Declared  with --prototypes the editor's own command leads to a prototype or to an external
+              declaration, and without it to the definition. At a local it leads to its definition
     Names     a hard link leads to a file that would be edited, or a link to it is open: the rename
               is refused, or each place has the new name once
     Branch    git checks out another branch, in which definitions moved, and goes back. Where eglot
@@ -30,7 +38,8 @@ ASCII. An editor that is not there is passed over. What they have to be told was
               found are those of files that the server had, where they are now. A new file is found
               once its buffer is opened and closed, or once the notification is sent, here by hand.
               In both, the text of a document that is open counts until it is read again
-    Wide      members, enumerators and variables are found by default, and not with --standard
+    Wide      members, enumerators and variables are found by default, and not with --standard;
+              locals are found with both
     Link      the tree is opened by a link to it, and each definition is there once
     Quit      no process of the server and no temporary file is left, also where emacs quits without
               ending its server
@@ -58,6 +67,7 @@ import tempfile
 import time
 import urllib.parse
 import uuid
+from typing import Callable, NamedTuple
 
 sys.path.insert(0, str(pathlib.Path(__file__).resolve().parents[1]))
 from shared import RESERVED, TOP, Report, c_files, copy, left_over, options, spread  # noqa: E402
@@ -69,6 +79,7 @@ AGAIN = 5  # how often each question is asked
 FOLDERS = {"nvim": "a tree \u00e9", "emacs": "a tree"}
 METHODS = {
     "definition": "textDocument/definition",
+    "declaration": "textDocument/declaration",
     "hover": "textDocument/hover",
     "uses": "textDocument/references",
     "prepare": "textDocument/prepareRename",
@@ -87,6 +98,51 @@ TREE = {
     "lib/deep/list.h": "enum order { UP, DOWN };\nint grow(int n);\n",
     "lib/list.c": '#include "deep/list.h"\nint grow(int n)\n{\n\treturn n * 2;\n}\n',
     "old/shape.h": "int old;\n",
+    "src/items.c": """\
+#include "items.h"
+int total;
+int add(struct item *it, int count)
+{
+	for (; it; it = it->next) {
+		int count = it->count;
+		if (count < 0)
+			goto count;
+		total += count;
+	}
+	return total + count;
+count:
+	return -1;
+}
+int put(struct item *it, int count)
+{
+	int last;
+	ADD(count, it, last);
+	return last;
+}
+int least(first, last) int last; { return first < last ? first : last; }
+int lost(int n)
+{
+	goto missing;
+	return MORE(n, 1);
+}
+""",
+    "src/items.h": """\
+#ifndef ITEMS_H
+#define ITEMS_H
+struct item {
+	int count;
+	struct item *next;
+};
+extern int total;
+int add(struct item *it, int count);
+#define ADD(count, total, \\
+            add) do { /* \u00e9 \U0001f388 */ int kept = (total)->count; \\
+	(total)->count += count; add = kept; } while (0)
+#define TEXT(it) #it
+#define PRINT(count) add(TEXT(count), count)
+#define MORE(n, by) ((n) + (by))
+#endif
+""",
     "src/main.c": """\
 #include <stdio.h>
 #include "shape.h"
@@ -126,6 +182,7 @@ int area(const struct shape *it);
 """,
 }
 NEW = {"src/new.c": "int fresh(void)\n{\n\treturn 0;\n}\n"}
+ITEMS_C, ITEMS_H = "src/items.c", "src/items.h"
 # What another branch has, without lib/list.c.
 BRANCH = {
     "lib/grow.c": "int grow(int n)\n{\n\treturn n * 3;\n}\n",
@@ -134,6 +191,7 @@ BRANCH = {
 }
 FUNCTION, MACRO, TYPEDEF, STRUCT, ENUM = 12, 14, 5, 23, 10
 ENUMERATOR, MEMBER, VARIABLE = 22, 8, 13
+TEXT, READ, WRITE = 1, 2, 3  # kinds of a highlight
 FUNCTION_NAME, MACRO_NAME, STRUCT_NAME, TYPEDEF_NAME = 3, 21, 22, 7  # in a completion
 CREATED = 1  # a file event
 ENDS = "start", "end"
@@ -196,11 +254,40 @@ function does.save(step) show(step[2]) vim.cmd('silent write') end
 function does.drop(step) vim.cmd('silent bwipeout! ' .. vim.fn.fnameescape(path(step[2]))) end
 function does.jump(step)
   at(step)
+  local function now() return vim.fn.expand('%:p') .. vim.fn.line('.') .. ':' .. vim.fn.col('.') end
+  local before = now()
   vim.lsp.buf.definition()
-  local before = vim.fn.expand('%:p') .. vim.fn.line('.')
-  vim.wait(10000, function() return vim.fn.expand('%:p') .. vim.fn.line('.') ~= before end, 5)
+  vim.wait(10000, function() return now() ~= before end, 5)
   local cursor = vim.api.nvim_win_get_cursor(0)
   return {{vim.fn.expand('%:p'), cursor[1] - 1, cursor[2]}}
+end
+function does.declare(step)
+  at(step)
+  local told, own = false, vim.lsp.handlers['textDocument/declaration']
+  vim.lsp.handlers['textDocument/declaration'] = function(...)
+    own(...)
+    told = true
+  end
+  vim.lsp.buf.declaration()
+  vim.wait(10000, function() return told end, 1)
+  vim.lsp.handlers['textDocument/declaration'] = own
+  local cursor, file = vim.api.nvim_win_get_cursor(0), vim.fn.expand('%:p')
+  local is_there = cursor[1] == step[3] + 1 and cursor[2] == step[4] and file == path(step[2])
+  return {is_there and {} or {{file, cursor[1] - 1, cursor[2], ''}}}
+end
+function does.light(step)
+  local space, marks = vim.api.nvim_create_namespace('vim_lsp_references'), {}
+  at(step)
+  vim.lsp.buf.clear_references()
+  vim.lsp.buf.document_highlight()
+  vim.wait(5000, function()
+    marks = vim.api.nvim_buf_get_extmarks(0, space, 0, -1, {details = true})
+    return #marks > 0
+  end, 5)
+  for number, it in ipairs(marks) do
+    marks[number] = {it[2], it[3], it[4].end_col, it[4].hl_group}
+  end
+  return {marks}
 end
 function does.list(step)
   at(step)
@@ -245,6 +332,7 @@ function does.complete(step)
 end
 function does.rename(step)
   at(step)
+  vim.cmd('let &undolevels = &undolevels')  -- ends what one undo takes back, as a key does
   local before = vim.b.changedtick
   said = {}
   vim.lsp.buf.rename(step[5])
@@ -344,10 +432,32 @@ EMACS_SCRIPT = r"""
   (list buffer-file-name (1- (line-number-at-pos))
         (- (position-bytes (point)) (position-bytes (line-beginning-position)))))
 (defun list-uses (file line column)
+  (listed file line column
+          (lambda () (xref-find-references "LSP identifier at point."))))
+(defun declare-it (file line column) (listed file line column #'eglot-find-declaration))
+(defun light (file line column)
+  (at file line column)
+  (let ((marks (lambda ()
+                 (cl-remove-if-not
+                  (lambda (it) (eq (overlay-get it 'face) 'eglot-highlight-symbol-face))
+                  (overlays-in (point-min) (point-max))))))
+    (mapc #'delete-overlay (funcall marks))
+    (eldoc-print-current-symbol-info t)
+    (with-timeout (5)
+      (while (not (funcall marks)) (accept-process-output nil 0.02)))
+    (vector
+     (vconcat
+      (mapcar (lambda (it)
+                (save-excursion
+                  (vector (progn (goto-char (overlay-start it)) (nth 1 (place-at-point)))
+                          (nth 2 (place-at-point))
+                          (progn (goto-char (overlay-end it)) (nth 2 (place-at-point))))))
+              (cl-sort (funcall marks) #'< :key #'overlay-start))))))
+(defun listed (file line column command)
   (at file line column)
   (let* ((xrefs nil)
          (xref-show-xrefs-function (lambda (fetcher _) (setq xrefs (funcall fetcher)))))
-    (xref-find-references "LSP identifier at point.")
+    (funcall command)
     (vector (vconcat (mapcar (lambda (it)
                                (let ((where (xref-location-marker (xref-item-location it))))
                                  (with-current-buffer (marker-buffer where)
@@ -413,7 +523,8 @@ EMACS_SCRIPT = r"""
         (push (* 1000 (- (float-time) began)) times)))
     (vector result (vconcat times))))
 (defun step-done (step)
-  (let ((does (pcase (car step) ("undo" #'undo-it) ("list" #'list-uses) (it (intern it)))))
+  (let ((does (pcase (car step) ("undo" #'undo-it) ("list" #'list-uses)
+                ("declare" #'declare-it) (it (intern it)))))
     (condition-case why
         (let ((answer (apply does (cdr step))))
           (undo-auto--boundaries 'command)  ; in each buffer that changed, as after a command
@@ -499,6 +610,14 @@ class Plan:
         self.expected.append((f"{what} {place}", is_now))
 
 
+IS_USED, IS_MACRO, IS_BAD = "name is used already", "a macro or type has this name", "bad name"
+
+
+def told_why(why: str) -> Callable[[list], bool]:
+    """A test of a rename that is refused: the editor tells this reason, behind words of its own."""
+    return lambda told: bool(told) and told[0].endswith(why)
+
+
 def questions(plan: Plan) -> None:
     """What stands in the files of the tree."""
     main, shape, header = "src/main.c", "src/shape.c", "src/shape.h"
@@ -549,7 +668,7 @@ def questions(plan: Plan) -> None:
     # a parameter, which has the name of others
     plan.ask("definition", shape, 7, 15, is_now=[(shape, 5, 29, 31)])
     plan.ask("uses", shape, 7, 15, is_now=[(shape, 7, 15, 17)])
-    plan.ask("marks", shape, 7, 15, is_now=[(5, 29, 31), (7, 15, 17)])
+    plan.ask("marks", shape, 7, 15, is_now=[(5, 29, 31, TEXT), (7, 15, 17, READ)])
     plan.ask("prepare", shape, 7, 15, is_now=(7, 15, 17))
     plan.jump(shape, 3, 8, [(shape, 1, 38)])
     plan.jump(main, 11, 29, [(shape, 5, 4)])
@@ -558,10 +677,12 @@ def questions(plan: Plan) -> None:
 
 
 def profile(plan: Plan, is_wide: bool) -> None:
-    """Members, enumerators and variables, which the wide profile alone finds."""
+    """Members, enumerators and variables, which the wide profile alone finds, and locals."""
     shape, header, deep = "src/shape.c", "src/shape.h", "lib/deep/list.h"
     plan.do("open", shape)
     plan.ask("definition", shape, 3, 12, is_now=[(header, 4, 5, 6)] if is_wide else [])
+    plan.ask("definition", shape, 12, 15, is_now=[(shape, 10, 29, 31)])  # a parameter
+    plan.ask("definition", ITEMS_H, 10, 21, is_now=[(ITEMS_H, 8, 12, 17)])  # one of a macro
     member = ("src/shape.h:5\nint w, h;", 3, 12, 13)
     plan.ask("hover", shape, 3, 12, is_now=member if is_wide else None)
     for query, more, always in [
@@ -587,7 +708,7 @@ def edits(plan: Plan) -> None:
     plan.ask("symbols", shape, is_now=told)
     extra = "src/shape.c:6\nint extra(int n)"
     plan.ask("hover", shape, 5, 4, is_now=(extra, 5, 4, 9))
-    plan.ask("marks", shape, 7, 9, is_now=[(5, 14, 15), (7, 8, 9)])  # n, which is not saved
+    plan.ask("marks", shape, 7, 9, is_now=[(5, 14, 15, TEXT), (7, 8, 9, READ)])  # n, not saved
     plan.jump(main, 11, 29, [(shape, 10, 4)])
     plan.do("open", header)
     plan.do("type", header, 2, ["#define EXTRA 1"])
@@ -659,11 +780,11 @@ def calls(plan: Plan, editor: str) -> None:
     plan.ask("names", main, 6, 13, is_now=(False, macros))  # S|IDES
     plan.ask("names", shape, 2, 0, is_now=(True, []))
     plan.ask("names", shape, 1, 34, is_now=(False, shapes))  # sha|pe
-    plan.do("type", main, 6, ["\tgro", "\tint brandish = sha"])
+    plan.do("type", main, 6, ["\tgro", "\tstruct sha"])
     plan.look("complete", main, 6, 4, is_now=(["grow"], "\tgrow"))
-    plan.look("complete", main, 7, 19, is_now=(["shape", "shape_t"], "\tint brandish = shape"))
+    plan.look("complete", main, 7, 11, is_now=(["shape", "shape_t"], "\tstruct shape"))
     plan.ask("definition", main, 6, 4, is_now=[(grow, 1, 4, 8)])
-    plan.ask("definition", main, 7, 20, is_now=[(header, 3, 7, 12)])
+    plan.ask("definition", main, 7, 12, is_now=[(header, 3, 7, 12)])
     plan.do("type", shape, 0, ["int grovel(void) { return 0; }"])
     plan.do("type", main, 6, ["\tgro"])
     plan.look("complete", main, 6, 4, is_now=lambda told: told[0] == ["grovel", "grow"])
@@ -675,8 +796,7 @@ def parameter(plan: Plan) -> None:
     place, old = (shape, 7, 15), TREE[shape]
     new = old.replace("area(const struct shape *it)", "area(const struct shape *one)")
     new = new.replace("helper(it)", "helper(one)")
-    is_used = "name is used already"
-    plan.look("rename", *place, "helper", is_now=lambda told: told[0].endswith(is_used))
+    plan.look("rename", *place, "helper", is_now=told_why(IS_USED))
     plan.ask("rename", *place, is_now=[(shape, 5, 29, 31), (shape, 7, 15, 17)])
     plan.look("rename", *place, "one", is_now=[])
     plan.texts({shape: new})
@@ -692,8 +812,8 @@ def renames(plan: Plan) -> None:
     once = {**old, main: TREE[main].replace("helper", "renamed")}
     place = main, 11, 29
     plan.do("open", main)
-    for name, why in ("return", "bad name"), ("grow", "name is used already"):
-        plan.look("rename", *place, name, is_now=lambda told, why=why: told[0].endswith(why))
+    for name, why in ("return", IS_BAD), ("grow", IS_USED):
+        plan.look("rename", *place, name, is_now=told_why(why))
     plan.texts({main: old[main]})
     plan.ask("rename", *place, is_now=[(main, 11, 26, 30), (shape, 5, 4, 8), (header, 7, 4, 8)])
     plan.look("rename", *place, "surface", is_now=[])
@@ -718,17 +838,306 @@ def renames(plan: Plan) -> None:
     plan.texts(new)
 
 
+class Local(NamedTuple):
+    """A name in items.c or items.h that means something in its function or its macro alone.
+
+    A place is a line, two columns in UTF-16 units and the kind of a highlight.
+    """
+
+    file: str
+    at: tuple[int, int]  # where the questions are asked, inside of the last use
+    declared: list[tuple]  # the last one is its definition
+    used: list[tuple]
+    refused: dict[str, str]  # new names, and how the reason ends
+    edits: dict[str, str] = {}  # what a rename makes of parts of the text; none: "next" is refused
+    new: str = "next"  # the name of a member
+
+    def holds(self, place: tuple) -> bool:
+        return place[0] == self.at[0] and place[1] <= self.at[1] <= place[2]
+
+
+MACRO_PARAMETERS = [
+    # count of ADD. A member, a variable, parameters and a label have this name, too
+    Local(
+        ITEMS_H,
+        (10, 21),
+        [(8, 12, 17, TEXT)],
+        [(9, 53, 58, READ), (10, 10, 15, WRITE), (10, 19, 24, READ)],
+        {"kept": IS_USED, "ADD": IS_USED, "count": IS_USED, "SIDES": IS_MACRO, "do": IS_BAD},
+        {
+            "ADD(count,": "ADD(next,",
+            "kept = (total)->count;": "kept = (total)->next;",
+            "(total)->count += count;": "(total)->next += next;",
+        },
+    ),
+    # total of ADD, and a variable
+    Local(
+        ITEMS_H,
+        (10, 4),
+        [(8, 19, 24, TEXT)],
+        [(9, 45, 50, READ), (10, 2, 7, READ)],
+        {"add": IS_USED, "shape_t": IS_MACRO},
+        {"ADD(count, total,": "ADD(count, next,", "(total)->": "(next)->"},
+    ),
+    # add of ADD, on the second line of the list, and a function
+    Local(
+        ITEMS_H,
+        (10, 27),
+        [(9, 12, 15, TEXT)],
+        [(10, 26, 29, WRITE)],
+        {"total": IS_USED, "PRINT": IS_MACRO},
+        {"            add) do": "            next) do", "add = kept": "next = kept"},
+    ),
+    # it of TEXT, which makes a string
+    Local(
+        ITEMS_H,
+        (11, 19),
+        [(11, 13, 15, TEXT)],
+        [(11, 18, 20, READ)],
+        {"TEXT": IS_USED, "ADD": IS_MACRO},
+        {"TEXT(it) #it": "TEXT(next) #next"},
+    ),
+    # count of PRINT, which hands it to TEXT
+    Local(
+        ITEMS_H,
+        (12, 40),
+        [(12, 14, 19, TEXT)],
+        [(12, 30, 35, READ), (12, 38, 43, READ)],
+        {"add": IS_USED, "next": "in the arguments of a macro: TEXT"},
+    ),
+    # n of MORE, which lost hands a parameter of this name
+    Local(
+        ITEMS_H,
+        (13, 23),
+        [(13, 13, 14, TEXT)],
+        [(13, 22, 23, READ)],
+        {"by": IS_USED, "shape_t": IS_MACRO},
+        {"MORE(n, by) ((n)": "MORE(next, by) ((next)"},
+    ),
+]
+FUNCTION_LOCALS = [
+    # a label of add, which has a parameter and a variable of this name, too
+    Local(
+        ITEMS_C,
+        (7, 10),
+        [(11, 0, 5, TEXT)],
+        [(7, 8, 13, TEXT)],
+        {"total": IS_USED, "ADD": IS_MACRO},
+        {"goto count;": "goto out;", "\ncount:": "\nout:"},
+        "out",
+    ),
+    # the parameter of add
+    Local(
+        ITEMS_C,
+        (10, 18),
+        [(2, 29, 34, TEXT)],
+        [(10, 16, 21, READ)],
+        {"it": IS_USED, "next": IS_USED},
+        {"int count)\n{\n\tfor": "int most)\n{\n\tfor", "total + count": "total + most"},
+        "most",
+    ),
+    # the variable of a block in add, which hides it
+    Local(
+        ITEMS_C,
+        (8, 13),
+        [(5, 6, 11, WRITE)],
+        [(6, 6, 11, READ), (8, 11, 16, READ)],
+        {"it": IS_USED, "TEXT": IS_MACRO},
+        {"int count = it": "int n = it", "(count < 0)": "(n < 0)", "+= count": "+= n"},
+        "n",
+    ),
+    # a parameter of put, in the arguments of ADD
+    Local(
+        ITEMS_C,
+        (17, 7),
+        [(14, 29, 34, TEXT)],
+        [(17, 5, 10, READ)],
+        {"kept": "used in a macro: ADD", "next": "in the arguments of a macro: ADD"},
+    ),
+    # the parameters of least, in the old style, where the first one has no type
+    Local(
+        ITEMS_C,
+        (20, 60),
+        [(20, 10, 15, TEXT)],
+        [(20, 42, 47, READ), (20, 57, 62, READ)],
+        {"last": IS_USED, "goto": IS_BAD},
+        {"least(first,": "least(next,", "first < last ? first": "next < last ? next"},
+    ),
+    Local(
+        ITEMS_C,
+        (20, 66),
+        [(20, 17, 21, TEXT), (20, 27, 31, TEXT)],
+        [(20, 50, 54, READ), (20, 65, 69, READ)],
+        {"first": IS_USED, "least": IS_USED},
+        {
+            "(first, last) int last;": "(first, next) int next;",
+            "< last ? first : last": "< next ? first : next",
+        },
+    ),
+    # a parameter of lost; its new name is that of a parameter of MORE
+    Local(
+        ITEMS_C,
+        (24, 14),
+        [(21, 13, 14, TEXT)],
+        [(24, 13, 14, READ)],
+        {"missing": IS_USED, "MORE": IS_USED, "TEXT": IS_MACRO},
+        {"lost(int n)": "lost(int by)", "MORE(n, 1)": "MORE(by, 1)"},
+        "by",
+    ),
+]
+
+
+def column_in_bytes(file: str, line: int, column: int) -> int:
+    begin = TREE[file].split("\n")[line].encode("utf-16-le")[: 2 * column]
+    return len(begin.decode("utf-16-le").encode())
+
+
+def local(plan: Plan, editor: str, it: Local) -> None:
+    """All that is asked about one local, by requests and by the editor's own commands."""
+    file, at, marks = it.file, it.at, sorted(it.declared + it.used)
+    definition, (word,) = it.declared[-1], filter(it.holds, marks)
+    line, text = definition[0], TREE[file]
+    for what in "definition", "declaration":
+        plan.ask(what, file, *at, is_now=[(file, *definition[:3])])
+    shown = text.split("\n")[line].lstrip()
+    plan.ask("hover", file, *at, is_now=(f"{file}:{line + 1}\n{shown}", *word[:3]))
+    plan.ask("uses", file, *at, is_now=[(file, *use[:3]) for use in it.used])
+    plan.ask("marks", file, *at, is_now=marks)
+    plan.ask("prepare", file, *at, is_now=word[:3])
+    plan.ask("calls", file, *at, is_now=None)
+
+    places = [(file, line, column_in_bytes(file, line, column)) for line, column, *_ in marks]
+    begin = places[marks.index(definition)]
+    edits = [(file, *mark[:3]) for mark in marks] if it.edits else it.refused["next"]
+    for place, mark in zip(places, marks):
+        before = [other for other in it.declared if other <= mark] or it.declared
+        plan.ask("definition", *place, is_now=[(file, *before[-1][:3])])
+        plan.ask("marks", *place, is_now=marks)
+        plan.ask("rename", *place, is_now=edits)
+    plan.jump(file, *at, [begin])
+    plan.look("declare", file, *at, is_now=[begin])
+    plan.look("list", file, *at, is_now=places)
+    names = {TEXT: "LspReferenceText", READ: "LspReferenceRead", WRITE: "LspReferenceWrite"}
+    lit = []
+    for place, (_, first, end, kind) in zip(places, marks):
+        told = (*place[1:], place[2] + end - first)
+        lit.append((*told, names[kind]) if editor == "nvim" else told)
+    plan.look("light", file, *at, is_now=lit)
+
+    texts = {name: TREE[name] for name in (ITEMS_C, ITEMS_H)}
+    for name, why in it.refused.items():
+        plan.look("rename", file, *at, name, is_now=told_why(why))
+    plan.texts(texts)
+    if it.edits:
+        new = text
+        for old_part, new_part in it.edits.items():
+            new = new.replace(old_part, new_part)
+        plan.look("rename", file, *at, it.new, is_now=[])
+        plan.texts({**texts, file: new})
+        there = (file, line, definition[1], definition[1] + len(it.new))
+        plan.ask("definition", *there[:3], is_now=[there])
+        plan.do("undo", file)
+        plan.texts(texts)
+        plan.ask("marks", file, *at, is_now=marks)
+
+
+def locals_of_macros(plan: Plan, editor: str) -> None:
+    """Parameters of macros, and names beside them."""
+    plan.do("open", ITEMS_C)
+    plan.do("open", ITEMS_H)
+    for it in MACRO_PARAMETERS:
+        local(plan, editor, it)
+    plan.ask("definition", ITEMS_H, 12, 22, is_now=[(ITEMS_C, 2, 4, 7)])  # add, which PRINT calls
+    plan.ask("definition", ITEMS_H, 9, 43, is_now=[])  # kept
+    plan.ask("definition", ITEMS_H, 3, 6, is_now=[(ITEMS_H, 3, 5, 10)])  # the member count
+    # what is typed, with bytes beside a name that no rename takes
+    odd = ["#define ODD(n) n\u00e9 + n", "#define LATE(n) ((n) + n\\", ")"]
+    bit = "#define BIT(count) (1 << (count))"
+    lines = TREE[ITEMS_H].splitlines()
+
+    def text(last: str) -> str:
+        return "\n".join([*lines[:14], *odd, last, *lines[14:]])
+
+    plan.do("type", ITEMS_H, 14, [*odd, bit])
+    odd_marks = [(14, 12, 13, TEXT), (14, 15, 16, READ), (14, 20, 21, READ)]
+    plan.ask("marks", ITEMS_H, 14, 21, is_now=odd_marks)
+    for place, number in ((14, 12), 15), ((15, 18), 16):
+        plan.look(
+            "rename", ITEMS_H, *place, "next", is_now=told_why(f"odd bytes: {ITEMS_H}:{number}")
+        )
+    plan.texts({ITEMS_H: text(bit)})
+    plan.ask("marks", ITEMS_H, 17, 27, is_now=[(17, 12, 17, TEXT), (17, 26, 31, READ)])
+    plan.look("rename", ITEMS_H, 17, 27, "next", is_now=[])
+    plan.texts({ITEMS_H: text(bit.replace("count", "next"))})
+    plan.do("undo", ITEMS_H)
+    plan.texts({ITEMS_H: text(bit)})
+
+
+def locals_of_functions(plan: Plan, editor: str) -> None:
+    """Locals of functions that have the name of other things."""
+    plan.do("open", ITEMS_H)
+    plan.do("open", ITEMS_C)
+    for it in FUNCTION_LOCALS:
+        local(plan, editor, it)
+    plan.ask("definition", ITEMS_C, 5, 19, is_now=[(ITEMS_H, 3, 5, 10)])  # the member count
+    plan.ask("definition", ITEMS_C, 5, 15, is_now=[(ITEMS_C, 2, 21, 23)])  # it
+    plan.ask("definition", ITEMS_C, 23, 8, is_now=[])  # a label that its function lacks
+    plan.ask("prepare", ITEMS_C, 23, 8, is_now=None)
+    plan.ask("rename", ITEMS_C, 23, 8, is_now="no such definition")
+    plan.ask("marks", ITEMS_C, 23, 8, is_now=[(23, 6, 13, TEXT)])
+
+
+def declarations(plan: Plan, has_prototypes: bool) -> None:
+    """Declarations, which only --prototypes finds, and definitions from the same places."""
+    main, shape, header, deep = "src/main.c", "src/shape.c", "src/shape.h", "lib/deep/list.h"
+    for file in main, header, ITEMS_C, ITEMS_H:
+        plan.do("open", file)
+    for file, line, column, declared, defined in [
+        (main, 11, 29, (header, 7, 4, 8), (shape, 5, 4, 8)),  # area
+        (main, 11, 40, (deep, 1, 4, 8), ("lib/list.c", 1, 4, 8)),  # grow
+        (header, 7, 5, (header, 7, 4, 8), (shape, 5, 4, 8)),  # area, at its prototype
+        (ITEMS_H, 7, 5, (ITEMS_H, 7, 4, 7), (ITEMS_C, 2, 4, 7)),  # add, at its prototype
+        (ITEMS_C, 2, 5, (ITEMS_H, 7, 4, 7), (ITEMS_C, 2, 4, 7)),  # add, at its definition
+        (ITEMS_H, 12, 22, (ITEMS_H, 7, 4, 7), (ITEMS_C, 2, 4, 7)),  # add, in a macro
+        (ITEMS_C, 8, 4, (ITEMS_H, 6, 11, 16), (ITEMS_C, 1, 4, 9)),  # total
+        (ITEMS_H, 6, 12, (ITEMS_H, 6, 11, 16), (ITEMS_C, 1, 4, 9)),  # total, where it is declared
+    ]:
+        told = declared if has_prototypes else defined
+        plan.ask("definition", file, line, column, is_now=[defined])
+        plan.ask("declaration", file, line, column, is_now=[told])
+        plan.look("declare", file, line, column, is_now=[told[:3]])
+    # what has no declaration, and locals
+    for file, line, column, place in [
+        (main, 11, 22, (main, 4, 11, 17)),  # helper
+        (main, 6, 13, (header, 2, 8, 13)),  # SIDES
+        (ITEMS_C, 8, 13, (ITEMS_C, 5, 6, 11)),  # count, in a block
+        (ITEMS_C, 10, 18, (ITEMS_C, 2, 29, 34)),  # count, a parameter
+        (ITEMS_C, 7, 10, (ITEMS_C, 11, 0, 5)),  # count, a label
+        (ITEMS_C, 5, 19, (ITEMS_H, 3, 5, 10)),  # count, a member
+        (ITEMS_H, 10, 27, (ITEMS_H, 9, 12, 15)),  # add, a parameter of a macro
+        (ITEMS_C, 0, 12, (ITEMS_H, 0, 0, 0)),  # "items.h"
+    ]:
+        plan.ask("declaration", file, line, column, is_now=[place])
+        plan.look("declare", file, line, column, is_now=[place[:3]])
+    plan.ask("declaration", ITEMS_H, 7, 32, is_now=[])  # count, a parameter of a prototype
+    plan.look("declare", ITEMS_H, 7, 32, is_now=[])
+    if has_prototypes:  # two of them: the nearest first
+        here, there = (ITEMS_H, 8, 4, 8), (deep, 1, 4, 8)
+        plan.do("type", ITEMS_H, 8, ["int grow(int n);"])
+        plan.do("open", "lib/list.c")
+        plan.ask("declaration", main, 11, 40, is_now=[here, there])
+        plan.ask("declaration", "lib/list.c", 1, 5, is_now=[there, here])
+        plan.ask("declaration", deep, 1, 5, is_now=[there])
+        plan.ask("definition", main, 11, 40, is_now=[("lib/list.c", 1, 4, 8)])
+
+
 def hard_links(plan: Plan) -> None:
     """A rename where a hard link leads to a file that would be edited."""
     main, shape, hard = "src/main.c", "src/shape.c", "src/hard.c"
-
-    def is_refused(told: list) -> bool:
-        return told[0].endswith("not open: src/hard.c")
-
     plan.do("open", main)
     for file in main, shape, hard:  # the last two have one buffer
         plan.do("open", file)
-        plan.look("rename", main, 11, 29, "surface", is_now=is_refused)
+        plan.look("rename", main, 11, 29, "surface", is_now=told_why("not open: src/hard.c"))
     plan.texts({main: TREE[main], shape: TREE[shape]})
 
 
@@ -741,7 +1150,7 @@ def links(plan: Plan, editor: str) -> None:
     plan.do("open", link)
     if editor == "nvim":
         why = "open under a second name: src/link.c"
-        plan.look("rename", main, 11, 29, "surface", is_now=lambda told: told[0].endswith(why))
+        plan.look("rename", main, 11, 29, "surface", is_now=told_why(why))
         plan.texts(texts)
         return
     plan.look("rename", main, 11, 29, "surface", is_now=lambda told: len(told) < 2)
@@ -804,9 +1213,11 @@ def plain(method: str, told: object, root: pathlib.Path) -> object:
     """An answer in the form in which it is expected."""
     if method == "jump":
         return [(path_of(path, root), line, column) for path, line, column in [told]]
-    if method in ("list", "calls"):
+    if method in ("list", "declare", "calls"):
         places = [(path_of(it[0], root), *it[1:]) for it in told]
-        return sorted(it[: 3 if method == "list" else 4] for it in places)
+        return sorted(it[: 4 if method == "calls" else 3] for it in places)
+    if method == "light":
+        return list(map(tuple, told))
     if method == "walk":
         calls = []
         for name, item, ranges in told:
@@ -820,7 +1231,7 @@ def plain(method: str, told: object, root: pathlib.Path) -> object:
         return told
     if "error" in told:
         return told["error"]["message"]
-    if method.endswith(("definition", "references")):
+    if method.endswith(("definition", "declaration", "references")):
         return [(*place_of(it, root), it["range"]["end"]["character"]) for it in told]
     if method.endswith("hover"):
         begin, end = told["range"]["start"], told["range"]["end"]
@@ -839,8 +1250,10 @@ def plain(method: str, told: object, root: pathlib.Path) -> object:
     if method.endswith("foldingRange"):
         return [(it["startLine"], it["endLine"]) for it in told]
     if method.endswith("Highlight"):
-        ranges = [it["range"] for it in told]
-        return [(it["start"]["line"], *(it[at]["character"] for at in ENDS)) for it in ranges]
+        pairs = [(it["range"], [it["kind"]] if "kind" in it else []) for it in told]
+        columns = [[it[at]["character"] for at in ENDS] for it, _ in pairs]
+        places = zip(pairs, columns)
+        return [(it["start"]["line"], *both, *kind) for (it, kind), both in places]
     if method.startswith("workspace"):
         return [(it["name"], it["kind"], *place_of(it["location"], root)) for it in told]
     begins = [(it, it["selectionRange"]["start"]) for it in told]
@@ -1003,6 +1416,14 @@ def by_hand(editor: Editor) -> None:
     plan = Plan(root)
     renames(plan)
     editor.check("rename", plan)
+    for part, steps in ("macros", locals_of_macros), ("locals", locals_of_functions):
+        plan = Plan(root)
+        steps(plan, editor.name)
+        editor.check(part, plan)
+    for part, words in ("declared", ("--prototypes",)), ("without", ()):
+        plan = Plan(root, words)
+        declarations(plan, bool(words))
+        editor.check(f"declarations, {part}", plan)
     os.link(root / "src/shape.c", root / "src/hard.c")
     plan = Plan(root)
     hard_links(plan)
