@@ -3,6 +3,7 @@ pub mod Bindings
 pub mod Braces
 pub mod Declarations
 pub mod Declarators
+pub mod Directives
 pub mod FunctionNames
 pub mod Functions
 pub mod HardAttributes

@@ -36,11 +36,13 @@ mod space;
 mod spaces;
 
 // What macros make of names, and the names of a function that may be macros.
+mod directive;
 mod macros;
 mod names;
 mod parameter;
 
 pub use code::Code;
+pub use directive::directive_space;
 pub use local::{Access, Local, LocalUse};
 pub use macros::{Macro, MacroName, macro_at, takes_member};
 pub use names::{Arguments, FunctionNames};

@@ -114,7 +114,7 @@ fn moved_items(alloc: Global, from: u32, tokens: &[Token]) -> Result<Vec<Item>, 
 }
 
 /// The tokens of a line, from a place on.
-fn line_items(alloc: Global, source: &Source, from: u32) -> Result<Vec<Item>, ScanError>
+pub(crate) fn line_items(alloc: Global, source: &Source, from: u32) -> Result<Vec<Item>, ScanError>
     ensures value { IfOk result (λ items. items.items ≡ line_items source.now from) }
     ensures within { IfOk result (λ items. AllByRecursion (IsItemOf source.now) items.items) }
     ensures few { IfOk result (λ items. length items.items < 2 ^ 32) }

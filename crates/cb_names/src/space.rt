@@ -28,6 +28,8 @@ pub enum Space {
     Called,
     /// Any other name: also a member where it is declared, and a label.
     Plain,
+    /// A macro: in a condition, `#undef` or where it is defined.
+    Macro,
 }
 
 /// The space of a tag, by `struct`, `union` or `enum` before it.

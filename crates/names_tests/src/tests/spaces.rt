@@ -1,6 +1,6 @@
 //! Name spaces, worked out by hand.
 use crate::tests::labels::source_of;
-use cb_names::{Code, Space};
+use cb_names::{Code, Space, directive_space};
 use std::test::Fail;
 
 /// Whether each of these places has its name space, or no name.
@@ -98,5 +98,35 @@ fn only_names_of_the_code_have_a_space(rt: HostRuntime) -> Result<(), Fail> {
         (69, None),
     ];
     assert!(rt; spaces(&rt, text, wanted)?);
+    Ok(())
+}
+
+#[test]
+fn the_own_word_of_a_directive_tells_its_spaces(rt: HostRuntime) -> Result<(), Fail> {
+    let text =
+        b"#ifdef A\n#define M(p) ((p)->b + c(d) + sizeof(struct e) + \\\n q.f)\n#endif\n#include G\nint h;\n# /* x */ undef B\n";
+    let source = source_of(&rt, text)?;
+    let wanted: &[(u32, Option<Space>)] = &[
+        (7, Some(Space::Macro)),
+        (8, Some(Space::Macro)),
+        (17, Some(Space::Macro)),
+        (24, Some(Space::Plain)),
+        (28, Some(Space::Member)),
+        (32, Some(Space::Called)),
+        (34, Some(Space::Plain)),
+        (53, Some(Space::Struct)),
+        (61, Some(Space::Plain)),
+        (63, Some(Space::Member)),
+        (107, Some(Space::Macro)),
+        // The own words, a name behind `include`, one of the code, and one in a comment.
+        (1, None),
+        (82, None),
+        (88, None),
+        (96, None),
+        (101, None),
+    ];
+    for one in wanted {
+        assert_eq!(rt; directive_space(rt.alloc(), &source, one.0)?, one.1);
+    }
     Ok(())
 }
