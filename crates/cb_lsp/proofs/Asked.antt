@@ -6,7 +6,6 @@ use Rattle.std.specs.Option.{option_map}
 use Rattle.json.specs.Json.{Json, array, null}
 use Rattle.cb_desk.specs.Scanned.{ScannedText, scanned_by, scanned_named}
 use Rattle.cb_desk.specs.World.{File, World, has_file, text_of_file}
-use Rattle.cb_names.specs.Meanings.{local_at}
 use Rattle.cb_scan.specs.Profiles.{facts_in}
 use Rattle.cb_scan.specs.declared.profile.Profile.{Profile}
 use Rattle.cb_tags.specs.Writers.{Writer}

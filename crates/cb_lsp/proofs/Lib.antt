@@ -35,7 +35,7 @@ pub mod NamedCalls
 pub mod NamedTags
 pub mod NamedUses
 pub mod NamedWords
-mod NearestLeft
+mod NearestShown
 pub mod NoText
 pub mod Notices
 pub mod Numbers
@@ -49,6 +49,7 @@ pub mod RenameSteps
 pub mod Requests
 pub mod SameLines
 pub mod Synced
+pub mod TagRows
 pub mod TagsByPlace
 pub mod Turned
 pub mod Undeclared
@@ -57,3 +58,8 @@ pub mod Untouched
 pub mod UsesApart
 pub mod UsesReached
 pub mod WorkSteps
+pub mod ClosureHeaders
+pub mod ClosureLasts
+pub mod ClosureReach
+pub mod ClosureSearch
+pub mod Truths

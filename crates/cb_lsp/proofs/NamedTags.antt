@@ -25,7 +25,8 @@ use Rattle.cb_scan.specs.declared.lex.piece.Span.{Span}
 use Rattle.cb_scan.specs.declared.profile.Profile.{Profile}
 use Rattle.cb_scan.specs.lex.Tokens.{bytes_of}
 use Rattle.cb_lsp.specs.Answers.{word_shown}
-use Rattle.cb_lsp.proofs.NearestLeft.{shown-all}
+use Rattle.cb_lsp.proofs.NearestShown.{shown-all}
+use Rattle.cb_lsp.specs.Closures.{is_in_closure}
 use Rattle.cb_names.specs.declared.space.Space.{Space}
 use Rattle.cb_lsp.specs.Ranges.{IsNamedIn, StandsIn, span_of}
 use Rattle.cb_lsp.specs.Searches.{found_by, is_like}
@@ -115,7 +116,7 @@ pub shown-named : (w : World) (name text : List ℕ) (space : Option Space) (ds 
     (word : Span) → IsAscending w.files
     → AllByRecursion (IsNamedIn w.files) (word_shown w name text space ds word)
 shown-named w name text space ds word order =
-    shown-all (IsNamedIn w.files) name _ ds (tags_named w.profile (bytes_of text word) w.files)
+    shown-all (IsNamedIn w.files) name (is_in_closure w name) _ ds (tags_named w.profile (bytes_of text word) w.files)
     (named-named w.files w.profile (bytes_of text word) w.files (own-texts w.files order))
 
 -- ---- what a query finds

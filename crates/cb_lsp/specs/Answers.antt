@@ -4,10 +4,12 @@ use Rattle.std.specs.Prelude.{Some, take, option_map}
 use Rattle.std.specs.Prelude.{Result, Ok, Err}
 use Rattle.std.specs.Prelude.{if◌then◌else◌}
 use Rattle.std.specs.List.{list_any}
+use Rattle.std.specs.Option.{option_or}
 use Rattle.json.specs.Json.{Json, array, null}
 use Rattle.cb_desk.specs.World.{World, has_file, text_of_file}
 use Rattle.cb_index.specs.Rows.{Fact, tags_named, uses_of}
 use Rattle.cb_names.specs.Meanings.{local_at}
+use Rattle.cb_names.specs.Directives.{directive_space}
 use Rattle.cb_names.specs.SpaceAt.{space_at}
 use Rattle.cb_names.specs.declared.space.Space.{Space}
 use Rattle.cb_names.specs.declared.space.Space.TheVariants as name_space
@@ -31,6 +33,7 @@ use Rattle.cb_wire.specs.Values.{items_of}
 use Rattle.cb_wire.specs.declared.list.TheConstants.{MOST_ELEMENTS}
 use Rattle.cb_lsp.specs.Calls.{callables, incoming_calls, item_of}
 use Rattle.cb_lsp.specs.Clients.{Client}
+use Rattle.cb_lsp.specs.Closures.{is_in_closure}
 use Rattle.cb_lsp.specs.Completions.{completions_before, word_before}
 use Rattle.cb_lsp.specs.Documents.{Looked, Oracle, Work}
 use Rattle.cb_lsp.specs.Folds.{folds_in}
@@ -76,7 +79,7 @@ abbrev pub word_shown : World → (name text : List ℕ) → Option Space → (d
     → List Tag
 word_shown w name text space declarations word =
     let ts = tags_named w.profile (bytes_of text word) w.files in
-    shown name (kinds_at space ts) declarations ts
+    shown name (is_in_closure w name) (kinds_at space ts) declarations ts
 
 abbrev pub places_of_word : Client → World → (name text : List ℕ) → Option Space
     → (declarations : Bool) → Option Span → Json
@@ -127,11 +130,15 @@ abbrev pub is_member_at : Span → Def → Bool
 is_member_at word d =
     is_member d.kind && d.name.start == word.start && d.name.end == word.end
 
--- the name space of the name at a place, where this word stands
+-- the name space of the name at a place, as the code tells it or a directive
+abbrev pub space_told : (text : List ℕ) → (place : ℕ) → Option Space
+space_told text at = option_or (space_at text at) (directive_space text at)
+
+-- the same where this word stands
 abbrev pub space_there : List Def → (text : List ℕ) → (place : ℕ) → Option Span → Option Space
-space_there ds text at None = space_at text at
+space_there ds text at None = space_told text at
 space_there ds text at (Some word) =
-    if list_any (is_member_at word) ds then Some name_space.Member else space_at text at
+    if list_any (is_member_at word) ds then Some name_space.Member else space_told text at
 
 -- the same where a question is about definitions
 abbrev pub space_asked : List Def → (text : List ℕ) → (place : ℕ) → Option Span → PlaceQuestion

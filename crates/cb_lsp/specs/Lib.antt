@@ -6,6 +6,8 @@ pub mod Calls
 pub mod ChangeExamples
 pub mod Changes
 pub mod Clients
+pub mod ClosureExamples
+pub mod Closures
 pub mod CompletionExamples
 pub mod Completions
 pub mod Documents

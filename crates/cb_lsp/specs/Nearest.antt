@@ -1,10 +1,10 @@
 -- Which definitions of a name are shown where it stands, and in which order: by its name space (ISO C
 -- 2011, 6.2.3), and by how near their files are.
-use Rattle.std.specs.Prelude.{ℕ, zero, suc, ◌+◌, ◌-◌, Bool, true, false, ◌&&◌, ◌||◌, ◌==◌, not}
-use Rattle.std.specs.Prelude.{nat_eq, List, [], ◌∷◌, ◌++◌, filter, codes, Option, None, Some}
-use Rattle.std.specs.Prelude.{if◌then◌else◌}
-use Rattle.std.specs.List.{count_by, ends_with, list_any}
+use Rattle.std.specs.Prelude.{ℕ, ◌+◌, Bool, true, false, ◌&&◌, ◌||◌, ◌==◌, not, nat_eq, List, []}
+use Rattle.std.specs.Prelude.{◌∷◌, filter, codes, Option, None, Some, if◌then◌else◌}
+use Rattle.std.specs.List.{count_by, ends_with, list_any, take_while}
 use Rattle.std.specs.Str.{bytes_eq}
+use Rattle.cb_scan.specs.Order.{in_order}
 use Rattle.cb_names.specs.declared.space.Space.{Space}
 use Rattle.cb_names.specs.declared.space.Space.TheVariants as name_space
 use Rattle.cb_scan.specs.declared.facts.Kind.{Kind}
@@ -66,6 +66,7 @@ kinds_at (Some name_space.Union) ts = first_had kinds.Unions (first_had kinds.Ta
 kinds_at (Some name_space.Enum) ts = first_had kinds.Enums (first_had kinds.Tags kinds.Macros ts) ts
 kinds_at (Some name_space.Called) ts = first_had kinds.Callables kinds.Ordinary ts
 kinds_at (Some name_space.Plain) ts = kinds.Ordinary
+kinds_at (Some name_space.Macro) ts = kinds.Macros
 
 -- ---- files
 
@@ -77,9 +78,13 @@ may_link kind.External = true
 may_link kind.Prototype = true
 may_link _ = false
 
+-- a file that is compiled by itself
+abbrev pub is_source : (file : List ℕ) → Bool
+is_source file = ends_with nat_eq file (codes ".c")
+
 -- a definition is private to its file, which ends in `.c`: it is local, or of another kind
 unfoldable pub is_private : Tag → Bool
-is_private t = (t.local || not (may_link t.kind)) && ends_with nat_eq t.file (codes ".c")
+is_private t = (t.local || not (may_link t.kind)) && is_source t.file
 
 -- how many folders a name has
 abbrev pub slashes : List ℕ → ℕ
@@ -92,48 +97,87 @@ apart (x ∷ xs) [] = slashes (x ∷ xs)
 apart (x ∷ xs) (y ∷ ys) =
     if x == y then apart xs ys else slashes (x ∷ xs) + slashes (y ∷ ys)
 
--- how near two files are: 16 in one folder, one less for each folder that is not shared
-abbrev pub nearness : List ℕ → List ℕ → ℕ
-nearness from file = 16 - apart from file
-
 -- ---- what is shown
 
 -- those that pass a test, if some do; else all
 abbrev pub narrowed : (Tag → Bool) → List Tag → List Tag
 narrowed test ts = if list_any test ts then filter test ts else ts
 
--- a definition is in view from a file: it is there, or is not private to another one
-abbrev pub is_in_view : (from : List ℕ) → Tag → Bool
-is_in_view from t = bytes_eq t.file from || not (is_private t)
-
--- those to which a test gives a number below n, the highest number first
-unfoldable pub descending : (ℕ → Tag → Bool) → (n : ℕ) → List Tag → List Tag
-descending test zero ts = []
-descending test (suc n) ts = filter (test n) ts ++ descending test n ts
-
--- the nearest first
-abbrev pub nearest_first : (from : List ℕ) → List Tag → List Tag
-nearest_first from ts = descending (λ n t. nearness from t.file == n) 17 ts
-
--- those of a file alone, if there are some; else the nearest first
-abbrev pub own_or_near : (from : List ℕ) → List Tag → List Tag
-own_or_near from ts =
-    let own = λ (t : Tag). bytes_eq t.file from in
-    if list_any own ts then filter own ts else nearest_first from ts
+-- a definition is in view by a closure: it is in there, or is not private to its file
+abbrev pub is_in_view : (inside : List ℕ → Bool) → Tag → Bool
+is_in_view inside t = inside t.file || not (is_private t)
 
 -- where declarations are asked for, these come before what defines; else what defines before these
 abbrev pub is_preferred : (declarations : Bool) → Kind → Bool
 is_preferred true k = is_declaration k
 is_preferred false k = not (is_declaration k)
 
--- of the definitions of a name those that are shown in a file: members all; else those in view, or
--- all where none is, and of these those that are preferred, or all where none is
-abbrev pub shown_of : (from : List ℕ) → (members declarations : Bool) → List Tag → List Tag
-shown_of from true declarations ts = ts
-shown_of from false declarations ts =
-    own_or_near from (narrowed (λ (t : Tag). is_preferred declarations t.kind)
-    (narrowed (is_in_view from) ts))
+-- a definition of a file itself that is preferred
+abbrev pub is_own : (from : List ℕ) → (declarations : Bool) → Tag → Bool
+is_own from declarations t = bytes_eq t.file from && is_preferred declarations t.kind
 
-abbrev pub shown : (from : List ℕ) → Kinds → (declarations : Bool) → List Tag → List Tag
-shown from ks declarations ts =
-    shown_of from (is_members ks) declarations (filter (λ (t : Tag). takes ks t.kind) ts)
+-- a function or a variable
+abbrev pub is_object : Kind → Bool
+is_object kind.Function = true
+is_object kind.Variable = true
+is_object _ = false
+
+abbrev pub is_function : Kind → Bool
+is_function kind.Function = true
+is_function _ = false
+
+-- what counts where some are in the closure: these and, unless a function is among them, functions and
+-- variables of files that end in `.c`, which they may stand for
+abbrev pub counts : (inside : List ℕ → Bool) → (function : Bool) → Tag → Bool
+counts inside function t = inside t.file || (not function && is_object t.kind && is_source t.file)
+
+abbrev pub is_included_function : (inside : List ℕ → Bool) → Tag → Bool
+is_included_function inside t = inside t.file && is_function t.kind
+
+-- in the closure first, and then the nearest first
+abbrev pub rank : (from : List ℕ) → (inside : List ℕ → Bool) → Tag → List ℕ
+rank from inside t = (if inside t.file then 0 else 1) ∷ apart from t.file ∷ []
+
+-- a definition is as far from a file as another one
+abbrev pub is_as_near : (from : List ℕ) → Tag → Tag → Bool
+is_as_near from t u = apart from u.file == apart from t.file
+
+-- those at the front that are as near as the first one
+abbrev pub as_near : (from : List ℕ) → List Tag → List Tag
+as_near from [] = []
+as_near from (t ∷ ts) = t ∷ take_while (is_as_near from t) ts
+
+-- of the definitions of no file itself: if some are in the closure, what counts there, by rank; else
+-- the nearest functions and variables or, if none are there, the nearest of all
+abbrev pub included_or_near : (from : List ℕ) → (inside : List ℕ → Bool) → List Tag → List Tag
+included_or_near from inside ts =
+    if list_any (λ (t : Tag). inside t.file) ts
+    then in_order (rank from inside)
+    (filter (counts inside (list_any (is_included_function inside) ts)) ts)
+    else as_near from (in_order (rank from inside) (narrowed (λ (t : Tag). is_object t.kind) ts))
+
+-- those of the file itself alone, if there are some
+abbrev pub own_or_near : (from : List ℕ) → (inside : List ℕ → Bool) → List Tag → List Tag
+own_or_near from inside ts =
+    let own = λ (t : Tag). bytes_eq t.file from in
+    if list_any own ts then filter own ts else included_or_near from inside ts
+
+-- of the definitions of a name those that are shown in a file with this closure: members all; else
+-- those of the file itself that are preferred, if there are some; else those in view, or all where
+-- none is, and of these those that are preferred, or all where none is
+abbrev pub shown_by : (from : List ℕ) → (inside : List ℕ → Bool) → (declarations : Bool) → List Tag
+    → List Tag
+shown_by from inside declarations ts =
+    if list_any (is_own from declarations) ts then filter (is_own from declarations) ts
+    else own_or_near from inside (narrowed (λ (t : Tag). is_preferred declarations t.kind)
+    (narrowed (is_in_view inside) ts))
+
+abbrev pub shown_of : (from : List ℕ) → (inside : List ℕ → Bool) → (members declarations : Bool)
+    → List Tag → List Tag
+shown_of from inside true declarations ts = ts
+shown_of from inside false declarations ts = shown_by from inside declarations ts
+
+abbrev pub shown : (from : List ℕ) → (inside : List ℕ → Bool) → Kinds → (declarations : Bool)
+    → List Tag → List Tag
+shown from inside ks declarations ts =
+    shown_of from inside (is_members ks) declarations (filter (λ (t : Tag). takes ks t.kind) ts)

@@ -21,6 +21,7 @@ use Rattle.cb_wire.specs.declared.units.Encoding.{Encoding}
 use Rattle.cb_names.specs.declared.space.Space.TheVariants as name_space
 use Rattle.cb_lsp.specs.Calls.{callables, cut_by, item_of}
 use Rattle.cb_lsp.specs.Clients.{Client}
+use Rattle.cb_lsp.specs.Closures.{is_in_closure}
 use Rattle.cb_lsp.specs.Nearest.{kinds_at, shown}
 use Rattle.cb_lsp.specs.Places.{range_of}
 
@@ -78,7 +79,8 @@ Called = Tag × List Callee
 abbrev pub called_as : World → (file : List ℕ) → Group → List Called
 called_as w file g =
     let ts = tags_named w.profile g.0.name w.files in
-    map (λ (t : Tag). (t, g.1)) (callables (shown file (kinds_at (Some name_space.Called) ts) false ts))
+    map (λ (t : Tag). (t, g.1)) (callables
+    (shown file (is_in_closure w file) (kinds_at (Some name_space.Called) ts) false ts))
 
 -- calls up to so many, and what is called up to so many calls in all
 abbrev pub cut_called : (most : ℕ) → Called → Called

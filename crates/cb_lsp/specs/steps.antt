@@ -1,5 +1,6 @@
 pub mod Callers
 pub mod Changed
+pub mod Closures
 pub mod Columns
 pub mod Completions
 pub mod Elements

@@ -18,13 +18,12 @@ ghost use Rattle.cb_wire.specs.Texts.{frame};
 ghost use Rattle.cb_wire.specs.Trees.{result_reply};
 ghost use Rattle.cb_wire.specs.Values.{items_of, value_text};
 ghost use Rattle.cb_wire.specs.declared.list.TheConstants.{MOST_ELEMENTS};
-ghost use Rattle.cb_lsp.specs.Answers.{answer_in, callables_at, header_asked, highlights_of};
-ghost use Rattle.cb_lsp.specs.Answers.{hover_at, hover_over, is_member_at, list_of, name_answer};
+ghost use Rattle.cb_lsp.specs.Answers.{answer_in, header_asked, highlights_of};
+ghost use Rattle.cb_lsp.specs.Answers.{is_member_at, list_of, name_answer};
 ghost use Rattle.cb_lsp.specs.Answers.{named_answer, place_answer, space_asked, space_there};
-ghost use Rattle.cb_lsp.specs.Answers.{word_shown};
-ghost use Rattle.cb_lsp.specs.Answers.{places_of_word, references_of_word, some_of, word_answer};
+ghost use Rattle.cb_lsp.specs.Answers.{space_told};
+ghost use Rattle.cb_lsp.specs.Answers.{references_of_word, word_answer};
 ghost use Rattle.cb_lsp.specs.Answers.{word_references};
-ghost use Rattle.cb_lsp.specs.Calls.{callables, item_of};
 ghost use Rattle.cb_lsp.specs.Completions.{completions_before, completions_of};
 ghost use Rattle.cb_lsp.specs.Headers.{folder_of, header_files};
 ghost use Rattle.cb_lsp.specs.Hovers.{hover_of, hover_shown};
@@ -36,30 +35,27 @@ ghost use Rattle.cb_lsp.specs.Symbols.{file_place, file_symbol, session_symbol};
 ghost use Rattle.cb_lsp.specs.Words.{word_at};
 ghost use Rattle.cb_lsp.specs.steps.Completions.{names_left};
 ghost use Rattle.cb_lsp.specs.steps.Located.{client_in};
-ghost use Rattle.cb_lsp.specs.steps.Nearby.{nearest_left};
 ghost use Rattle.cb_lsp.specs.steps.References.{references_left};
 ghost use Rattle.cb_lsp.specs.declared.symbols.TheConstants.{MOST_SYMBOLS};
 
-use crate::calls::{CallItems, next_callable};
 use crate::columns::Positions;
 use crate::completion::{Completions, MOST_COMPLETIONS};
 use crate::header::{folder_of, header_at, is_in_folder, without_dots};
 use crate::highlights::Highlights;
-use crate::hover::{Hovers, MOST_HOVERS};
+use crate::hover::MOST_HOVERS;
 use crate::location::{Forms, Located, range_of};
-use crate::nearest::Nearest;
 use crate::place::bytes_of;
 use crate::question::{FileQuestion, PlaceQuestion};
 use crate::references::{References, UsePlaces};
 use crate::symbols::{
-    FileDefs, FlatSymbols, HeaderFiles, MOST_SYMBOLS, OneFile, Places, SessionSymbols, TreeSymbols,
+    FileDefs, FlatSymbols, HeaderFiles, MOST_SYMBOLS, OneFile, SessionSymbols, TreeSymbols,
     keep_like, next_like,
 };
 use crate::word::{word_at, word_before};
 use crate::written::{put_null, put_refusal};
 use cb_desk::{Desk, Format};
 use cb_index::TagSpot;
-use cb_names::{Code, Space};
+use cb_names::{Code, Space, directive_space};
 use cb_scan::{Def, Facts, Kind, Source, Span};
 use cb_tags::{Sink, WriteFault};
 use cb_wire::{
@@ -272,91 +268,6 @@ impl<'a> FileAsked<'a> {
         }
     }
 
-    /// The definitions that are shown of a word of the file, where its name has this space:
-    /// declarations first, or not.
-    fn shown<'p>(&'p self, word: Span, space: Option<Space>, declarations: bool) -> Nearest<'a, 'p>
-        ensures { nearest_left result ≡ word_shown self.now.desk.now.timeline.present
-            self.now.name.now self.now.source.now space declarations word }
-    {
-        let rows = self.desk.definitions(bytes_of(self.source, word));
-        Nearest::new(rows, self.name, space, declarations)
-    }
-
-    /// Writes where the definitions that are shown of a word are.
-    fn put_places<W: Write>(
-        &self,
-        out: &mut Sink<W>,
-        id: Id<'_>,
-        word: Option<Span>,
-        space: Option<Space>,
-        declarations: bool,
-    ) -> Result<(), WriteFault>
-        ensures { Puts out.old out.new result (frame (value_text (result_reply (id_json id.entry)
-            (places_of_word (client_in self.now.forms) self.now.desk.now.timeline.present
-            self.now.name.now self.now.source.now space declarations word)))) }
-    {
-        match word {
-            Some(word) => put_list(
-                out,
-                id,
-                Places {
-                    places: Located::new(self.forms, self.desk),
-                    rest: self.shown(word, space, declarations),
-                },
-            ),
-            None => put_list(
-                out,
-                id,
-                OneFile {
-                    forms: self.forms,
-                    rest: None,
-                },
-            ),
-        }
-    }
-
-    /// Writes the definitions that are shown of a word.
-    fn put_word<W: Write>(
-        &self,
-        out: &mut Sink<W>,
-        id: Id<'_>,
-        word: Span,
-        space: Option<Space>,
-    ) -> Result<(), WriteFault>
-        ensures { Puts out.old out.new result (frame (value_text (result_reply (id_json id.entry)
-            (hover_over (client_in self.now.forms) self.now.source.now word (word_shown
-            self.now.desk.now.timeline.present self.now.name.now self.now.source.now space
-            false word))))) }
-    {
-        let rest = self.shown(word, space, false);
-        let mut first = rest.again();
-        match first.next() {
-            Some(_) => {
-                let range = range_of(self.forms, self.source, word);
-                put_hovers(out, id, Hovers { rest }, range)
-            }
-            None => put_null(out, id),
-        }
-    }
-
-    /// Writes what stands at a place.
-    fn put_hover<W: Write>(
-        &self,
-        out: &mut Sink<W>,
-        id: Id<'_>,
-        word: Option<Span>,
-        space: Option<Space>,
-    ) -> Result<(), WriteFault>
-        ensures { Puts out.old out.new result (frame (value_text (result_reply (id_json id.entry)
-            (hover_at (client_in self.now.forms) self.now.desk.now.timeline.present
-            self.now.name.now self.now.source.now space word)))) }
-    {
-        match word {
-            Some(word) => self.put_word(out, id, word, space),
-            None => put_null(out, id),
-        }
-    }
-
     /// Writes the uses of a word in the file.
     fn put_highlights<W: Write>(
         &self,
@@ -501,53 +412,6 @@ impl<'a> FileAsked<'a> {
         }
     }
 
-    /// Writes the functions and macros that are shown of a word.
-    fn put_callables<W: Write>(
-        &self,
-        out: &mut Sink<W>,
-        id: Id<'_>,
-        word: Span,
-        space: Option<Space>,
-    ) -> Result<(), WriteFault>
-        ensures { Puts out.old out.new result (frame (value_text (result_reply (id_json id.entry)
-            (some_of (map (item_of (client_in self.now.forms)
-            self.now.desk.now.timeline.present.files) (callables (word_shown
-            self.now.desk.now.timeline.present self.now.name.now self.now.source.now space
-            false word))))))) }
-    {
-        let rest = self.shown(word, space, false);
-        let mut first = rest.again();
-        match next_callable(&mut first) {
-            Some(_) => put_list(
-                out,
-                id,
-                CallItems {
-                    places: Located::new(self.forms, self.desk),
-                    rest,
-                },
-            ),
-            None => put_null(out, id),
-        }
-    }
-
-    /// Writes the functions and macros that stand at a place.
-    fn put_callables_at<W: Write>(
-        &self,
-        out: &mut Sink<W>,
-        id: Id<'_>,
-        word: Option<Span>,
-        space: Option<Space>,
-    ) -> Result<(), WriteFault>
-        ensures { Puts out.old out.new result (frame (value_text (result_reply (id_json id.entry)
-            (callables_at (client_in self.now.forms) self.now.desk.now.timeline.present
-            self.now.name.now self.now.source.now space word)))) }
-    {
-        match word {
-            Some(word) => self.put_callables(out, id, word, space),
-            None => put_null(out, id),
-        }
-    }
-
     /// Writes the names that complete a word.
     fn put_completions<W: Write>(
         &self,
@@ -575,9 +439,10 @@ impl<'a> FileAsked<'a> {
     ) -> Result<(), WriteFault>
         requires { self.now.facts.now
             ≡ facts_in self.now.desk.now.timeline.present.profile self.now.source.now }
-        ensures { Puts out.old out.new result (frame (value_text (result_reply (id_json id.entry)
-            (word_answer (client_in self.now.forms) self.now.desk.now.timeline.present
-            self.now.name.now self.now.source.now space word question)))) }
+        ensures { (no_memory : Bool) × Puts out.old out.new result (frame (value_text
+            (result_unless no_memory (id_json id.entry) (word_answer (client_in self.now.forms)
+            self.now.desk.now.timeline.present self.now.name.now self.now.source.now space word
+            question)))) }
     {
         match question {
             PlaceQuestion::Definition => self.put_places(out, id, word, space, false),
@@ -599,7 +464,21 @@ impl<'a> FileAsked<'a> {
         self.facts.defs().iter().any(|def| is_member_at(word, def))
     }
 
-    /// The name space of the name at a place of the code, where this word stands.
+    /// The name space of the name at a place, as the code tells it or a directive.
+    fn space_told(&self, code: &Code<'_>, place: u32) -> Result<Option<Space>, AllocError>
+        requires { code.now ≡ self.now.source.now }
+        ensures { IfOk result (λ found. found ≡ space_told self.now.source.now place) }
+    {
+        match code.space_at(self.alloc, place)? {
+            Some(space) => Ok(Some(space)),
+            None => match directive_space(self.alloc, self.source, place) {
+                Ok(found) => Ok(found),
+                Err(_) => Err(AllocError),
+            },
+        }
+    }
+
+    /// The same where this word stands.
     fn space_there(
         &self,
         code: &Code<'_>,
@@ -612,7 +491,7 @@ impl<'a> FileAsked<'a> {
     {
         match word {
             Some(word) if self.names_member(word) => Ok(Some(Space::Member)),
-            _ => code.space_at(self.alloc, place),
+            _ => self.space_told(code, place),
         }
     }
 

@@ -1,40 +1,25 @@
 //! Functions and macros that call each other.
 ghost use Rattle.std.specs.Prelude.{◌≡◌};
-ghost use Rattle.std.specs.Iterator.{YieldsFirstBy};
-ghost use Rattle.cb_tags.specs.TagLines.{tag_of};
 ghost use Rattle.cb_lsp.specs.Calls.{is_callable};
-ghost use Rattle.cb_lsp.specs.steps.Elements.{callables_left, items_left};
+ghost use Rattle.cb_lsp.specs.steps.Elements.{items_left};
 
 use crate::location::Located;
-use crate::nearest::Nearest;
 use cb_scan::Kind;
 use cb_tags::TagRow;
 use cb_wire::{CallItem, Elements};
 
 /// Whether what has this kind can call and be called.
-fn is_callable(kind: Kind) -> bool
+pub(crate) fn is_callable(kind: Kind) -> bool
     ensures { result ≡ is_callable kind }
 {
     matches!(kind, Kind::Function | Kind::Macro)
 }
 
-/// The next function or macro of those that are shown.
-pub(crate) fn next_callable<'a, 'p>(rows: &mut Nearest<'a, 'p>) -> Option<TagRow<'a>>
-    ensures { YieldsFirstBy tag_of callables_left rows.old result rows.new }
-{
-    'rows: while let Some(row) = rows.next() {
-        if is_callable(row.kind) {
-            return Some(row);
-        }
-    }
-    None
-}
-
-/// The functions and macros that are shown of a name.
+/// Functions and macros.
 #[derive(Drop)]
 pub(crate) struct CallItems<'a, 'p> {
     pub(crate) places: Located<'a>,
-    pub(crate) rest: Nearest<'a, 'p>,
+    pub(crate) rest: &'p [TagRow<'a>],
 }
 
 impl<'a, 'p> Elements for CallItems<'a, 'p> {
@@ -45,12 +30,17 @@ impl<'a, 'p> Elements for CallItems<'a, 'p> {
     fn again(&self) -> CallItems<'a, 'p> {
         CallItems {
             places: self.places.again(),
-            rest: self.rest.again(),
+            rest: self.rest,
         }
     }
 
     fn next(&mut self) -> Option<CallItem<'a>> {
-        let row = next_callable(&mut self.rest)?;
-        Some(self.places.item(row.name, row.kind, row.file, row.place))
+        match self.rest {
+            [row, rest @ ..] => {
+                self.rest = rest;
+                Some(self.places.item(row.name, row.kind, row.file, row.place))
+            }
+            [] => None,
+        }
     }
 }

@@ -25,7 +25,7 @@ pub(crate) fn header_at(includes: &[Include], place: usize) -> Option<Span>
 }
 
 /// How many bytes the folder of a file has, with its slash.
-fn folder_length(name: &[u8]) -> usize
+pub(crate) fn folder_length(name: &[u8]) -> usize
     ensures value { result ≡ folder_length name.now }
     ensures within { result ≤ length name.now }
 {
@@ -57,7 +57,7 @@ pub(crate) fn is_in_folder(folder: &[u8], header: &[u8], name: &[u8]) -> bool
 }
 
 /// What stands behind a `./` or a `../` at the front of a header.
-fn after_dots(header: &[u8]) -> Option<&[u8]>
+pub(crate) fn after_dots(header: &[u8]) -> Option<&[u8]>
     ensures { option_map (λ rest. rest.now) result ≡ after_dots header.now }
 {
     match header {

@@ -5,10 +5,9 @@ ghost use Rattle.cb_wire.specs.Texts.{parts_text};
 ghost use Rattle.cb_lsp.specs.Hovers.{cut_line, hover_at_place};
 ghost use Rattle.cb_lsp.specs.steps.Elements.{hover_element, hovers_left};
 
-use crate::nearest::Nearest;
 use cb_desk::unindented;
 use cb_scan::Source;
-use cb_tags::{Sink, WriteFault};
+use cb_tags::{Sink, TagRow, WriteFault};
 use cb_wire::{
     Element, Elements, Encoding, Part, column_of_place, parts_length, place_of_column, put_parts,
 };
@@ -80,7 +79,7 @@ impl Element for Hover<'_> {
 /// The definitions that are shown of a word, as a hover shows them.
 #[derive(Drop)]
 pub(crate) struct Hovers<'a, 'p> {
-    pub(crate) rest: Nearest<'a, 'p>,
+    pub(crate) rest: &'p [TagRow<'a>],
 }
 
 impl<'a, 'p> Elements for Hovers<'a, 'p> {
@@ -89,17 +88,20 @@ impl<'a, 'p> Elements for Hovers<'a, 'p> {
     ghost texts = { hovers_left };
 
     fn again(&self) -> Hovers<'a, 'p> {
-        Hovers {
-            rest: self.rest.again(),
-        }
+        Hovers { rest: self.rest }
     }
 
     fn next(&mut self) -> Option<Hover<'a>> {
-        let row = self.rest.next()?;
-        Some(Hover {
-            file: row.file,
-            line: row.line,
-            text: row.text,
-        })
+        match self.rest {
+            [row, rest @ ..] => {
+                self.rest = rest;
+                Some(Hover {
+                    file: row.file,
+                    line: row.line,
+                    text: row.text,
+                })
+            }
+            [] => None,
+        }
     }
 }

@@ -1,14 +1,10 @@
 //! Locals that are renamed: the edits of their uses, or why there are none.
-ghost use Rattle.std.specs.Prelude.{◌≡◌, ◌<◌, ◌≤◌, ◌^◌, ℕ, Bool, IfOk, None, Some};
-ghost use Rattle.std.specs.Prelude.{count_by, false, filter, find, length, map, nat_lt, take};
-ghost use Rattle.std.specs.Option.{option_copied, option_map, option_map_or};
-ghost use Rattle.std.specs.List.{list_any};
-ghost use Rattle.cb_scan.specs.declared.lex.piece.Span.{Span as CodeSpan};
-ghost use Rattle.cb_names.specs.Macros.{takes_member};
+ghost use Rattle.std.specs.Prelude.{◌≡◌, ◌<◌, Bool, IfOk, None, Some};
+ghost use Rattle.std.specs.Prelude.{false, map, take};
+ghost use Rattle.std.specs.Option.{option_map};
 ghost use Rattle.cb_names.specs.FunctionNames.{function_names};
 ghost use Rattle.cb_names.specs.declared.local.LocalUse.{LocalUse as OwnUse};
 ghost use Rattle.cb_scan.specs.Profiles.{facts_in};
-ghost use Rattle.cb_scan.specs.declared.facts.Include.{Include as Header};
 ghost use Rattle.cb_scan.specs.lex.Tokens.{bytes_of};
 ghost use Rattle.cb_tags.specs.Writing.{Puts};
 ghost use Rattle.cb_wire.specs.Edits.{edits_of};
@@ -19,10 +15,9 @@ ghost use Rattle.cb_wire.specs.Values.{value_text};
 ghost use Rattle.cb_lsp.specs.Answers.{reply_with};
 ghost use Rattle.cb_lsp.specs.Bodies.{Replies};
 ghost use Rattle.cb_lsp.specs.Documents.{Oracle};
-ghost use Rattle.cb_lsp.specs.LocalRenames.{byte_at, byte_before, callers, edited_unless, first_from};
-ghost use Rattle.cb_lsp.specs.LocalRenames.{is_bad, is_beside_odd, is_handed, is_hidden, is_joined_at};
-ghost use Rattle.cb_lsp.specs.LocalRenames.{is_joined_before, is_macro_or_type, is_named, is_odd};
-ghost use Rattle.cb_lsp.specs.LocalRenames.{is_special, is_taken, is_use_in, is_used_in, is_within};
+ghost use Rattle.cb_lsp.specs.LocalRenames.{callers, edited_unless};
+ghost use Rattle.cb_lsp.specs.LocalRenames.{is_bad, is_hidden};
+ghost use Rattle.cb_lsp.specs.LocalRenames.{is_taken, is_used_in};
 ghost use Rattle.cb_lsp.specs.LocalRenames.{local_edits, renamed_local, renamed_parameter};
 ghost use Rattle.cb_lsp.specs.LocalRenames.{unless_arguments, unless_parameter};
 ghost use Rattle.cb_lsp.specs.LocalRenames.{unless_alone, unless_bytes, unless_given, unless_handed};
@@ -30,7 +25,7 @@ ghost use Rattle.cb_lsp.specs.LocalRenames.{unless_included};
 ghost use Rattle.cb_lsp.specs.LocalRenames.{unless_local};
 ghost use Rattle.cb_lsp.specs.LocalRenames.{touched, unless_macro, unless_names, unless_seen};
 ghost use Rattle.cb_lsp.specs.Messages.{reply_unless};
-ghost use Rattle.cb_lsp.specs.steps.LocalRenames.{ends, first_of, local_edits_left};
+ghost use Rattle.cb_lsp.specs.steps.LocalRenames.{ends, local_edits_left};
 ghost use Rattle.cb_wire.specs.declared.list.TheConstants.{MOST_ELEMENTS};
 ghost use Rattle.cb_lsp.specs.steps.Located.{client_in};
 ghost use Rattle.cb_lsp.specs.steps.Renames.{reason_of, work_in};
@@ -40,341 +35,18 @@ use crate::columns::Positions;
 use crate::disk::Disk;
 use crate::place::bytes_of;
 use crate::rename::{Renaming, Unedited, put_unedited};
+use crate::renamed_text::{
+    callers, first_included, first_odd, handed, has_named, is_bad, is_hidden, is_taken, is_used_in,
+    member_taker, spans_of, touched,
+};
 use crate::written::{put_refusal, put_refused};
-use cb_desk::Desk;
-use cb_macros::{Sought, first_through, has_parameters};
-use cb_names::{Arguments, Code, FunctionNames, Local, LocalUse, Parameter, takes_member};
-use cb_scan::{Include, Kind, Source, Span, Use, is_name};
+use cb_macros::{Sought, first_through};
+use cb_names::{Code, FunctionNames, Local, LocalUse, Parameter};
+use cb_scan::Span;
 use cb_tags::{Sink, WriteFault};
 use cb_wire::{Elements, FileEdit, Id, Location, MOST_ELEMENTS, Part, Root, put_list_result};
 use std::alloc::{AllocError, Global};
 use std::io::Write;
-
-/// Whether no name is renamed from or to a word: it begins with `__`, or compilers give it a
-/// meaning.
-fn is_special(word: &[u8]) -> bool
-    ensures { result ≡ is_special word.now }
-{
-    word.starts_with(b"__") || word == b"typeof".as_slice() || word == b"offsetof".as_slice()
-}
-
-fn is_bad(old: &[u8], new: &[u8]) -> bool
-    ensures { result ≡ is_bad old.now new.now }
-{
-    !is_name(new) || is_special(old) || is_special(new)
-}
-
-fn is_macro_or_type(kind: Kind) -> bool
-    ensures { result ≡ is_macro_or_type kind }
-{
-    matches!(kind, Kind::Macro | Kind::Typedef)
-}
-
-/// Whether a macro or a typedef has a name.
-fn is_taken(desk: &Desk, name: &[u8]) -> bool
-    ensures { result ≡ is_taken desk.now.timeline.present name.now }
-{
-    let mut left = desk.definitions(name);
-    'rows: while let Some(row) = left.next() {
-        if is_macro_or_type(row.kind) {
-            return true;
-        }
-    }
-    false
-}
-
-fn is_within(extent: Span, at: u32) -> bool
-    ensures { result ≡ is_within extent at }
-{
-    extent.start <= at && at < extent.end
-}
-
-/// Whether a use in an extent has a name.
-fn is_use_in(source: &Source, extent: Span, name: &[u8], one: &Use) -> bool
-    ensures { result ≡ is_use_in source.now extent name.now one.now }
-{
-    is_within(extent, one.name.start) && bytes_of(source, one.name) == name
-}
-
-fn is_used_in(source: &Source, extent: Span, uses: &[Use], name: &[u8]) -> bool
-    ensures { result ≡ is_used_in source.now extent uses.now name.now }
-{
-    for i in 0..uses.len() {
-        if is_use_in(source, extent, name, &uses[i]) {
-            return true;
-        }
-    }
-    false
-}
-
-/// How many uses in an extent have a name.
-fn uses_in(source: &Source, extent: Span, uses: &[Use], name: &[u8]) -> usize
-    ensures value { result ≡ count_by (is_use_in source.now extent name.now) uses.now }
-    ensures within { result ≤ length uses.now }
-{
-    let mut count = 0;
-    for i in 0..uses.len() {
-        if is_use_in(source, extent, name, &uses[i]) {
-            count += 1;
-        }
-    }
-    count
-}
-
-/// How many spans have a name.
-fn named_among(source: &Source, spans: &[Span], name: &[u8]) -> usize
-    ensures value { result ≡ count_by (is_named source.now name.now) spans.now }
-    ensures within { result ≤ length spans.now }
-{
-    let mut count = 0;
-    for i in 0..spans.len() {
-        if bytes_of(source, spans[i]) == name {
-            count += 1;
-        }
-    }
-    count
-}
-
-/// Whether a name stands in a directive of a function, or in an attribute that is left out.
-fn is_hidden(source: &Source, function: &FunctionNames, uses: &[Use], name: &[u8]) -> bool
-    ensures { result ≡ is_hidden source.now function.now uses.now name.now }
-{
-    named_among(source, function.own(), name) < uses_in(source, function.extent(), uses, name)
-}
-
-/// Whether one of some spans has a name.
-fn has_named(source: &Source, spans: &[Span], name: &[u8]) -> bool
-    ensures { result ≡ list_any (is_named source.now name.now) spans.now }
-{
-    for i in 0..spans.len() {
-        if bytes_of(source, spans[i]) == name {
-            return true;
-        }
-    }
-    false
-}
-
-/// The spans that have a name.
-fn all_named(
-    alloc: Global,
-    source: &Source,
-    spans: &[Span],
-    name: &[u8],
-) -> Result<Vec<Span>, AllocError>
-    ensures { IfOk result (λ found. found.items ≡ filter (is_named source.now name.now) spans.now) }
-{
-    let mut found = Vec::new(alloc);
-    for i in 0..spans.len() {
-        if bytes_of(source, spans[i]) == name {
-            found.push(spans[i])?;
-        }
-    }
-    Ok(found)
-}
-
-/// The spans of some uses.
-fn spans_of(alloc: Global, uses: &[LocalUse]) -> Result<Vec<Span>, AllocError>
-    ensures { IfOk result (λ found. found.items ≡ map (λ (u : OwnUse). u.name) uses.now) }
-{
-    let mut found = Vec::with_capacity(alloc, uses.len())?;
-    for i in 0..uses.len() {
-        found.push(uses[i].name)?;
-    }
-    Ok(found)
-}
-
-/// What a macro must not touch: the uses of a local; of a label all names of the function with its
-/// name.
-fn touched(
-    alloc: Global,
-    source: &Source,
-    function: &FunctionNames,
-    own: &Local,
-    name: &[u8],
-) -> Result<Vec<Span>, AllocError>
-    ensures { IfOk result
-        (λ found. found.items ≡ touched source.now function.now own.now name.now) }
-{
-    if own.is_label() {
-        all_named(alloc, source, function.own(), name)
-    } else {
-        spans_of(alloc, own.uses())
-    }
-}
-
-/// Some spans by place from a place on, where they follow each other.
-fn skip_before(spans: &[Span], at: u32) -> &[Span]
-    ensures later { (place : ℕ) → at ≤ place
-        → first_from result.now place ≡ first_from spans.now place }
-    ensures here { first_of result.now ≡ first_from spans.now at }
-{
-    let mut rest = spans;
-    'spans: while let Some((one, more)) = rest.split_first() {
-        if at <= one.start {
-            return rest;
-        }
-        rest = more;
-    }
-    rest
-}
-
-/// The same, behind some of them where it is known from where on they have all.
-fn rest_from<'s>(spans: &'s [Span], rest: &'s [Span], from: u32, at: u32) -> &'s [Span]
-    requires { (place : ℕ) → from ≤ place
-        → first_from rest.now place ≡ first_from spans.now place }
-    ensures later { (place : ℕ) → at ≤ place
-        → first_from result.now place ≡ first_from spans.entry.now place }
-    ensures here { first_of result.now ≡ first_from spans.entry.now at }
-{
-    if at < from {
-        skip_before(spans, at)
-    } else {
-        skip_before(rest, at)
-    }
-}
-
-/// Whether the first of some spans is before a place.
-fn begins_before(spans: &[Span], end: u32) -> bool
-    ensures { result ≡ option_map_or (λ (s : CodeSpan). nat_lt s.start end) (first_of spans.now)
-        false }
-{
-    match spans {
-        [first, ..] => first.start < end,
-        [] => false,
-    }
-}
-
-/// The names whose arguments hold one of some spans.
-fn callers(alloc: Global, spans: &[Span], arguments: &[Arguments]) -> Result<Vec<Span>, AllocError>
-    ensures { IfOk result (λ found. found.items ≡ callers spans.now arguments.now) }
-{
-    let mut found = Vec::new(alloc);
-    let mut rest = spans;
-    let mut from = 0;
-    for i in 0..arguments.len() {
-        let one = arguments[i];
-        rest = rest_from(spans, rest, from, one.name.end);
-        from = one.name.end;
-        if begins_before(rest, one.end) {
-            found.push(one.name)?;
-        }
-    }
-    Ok(found)
-}
-
-/// The names of macros with parameters among some spans.
-fn handed(
-    alloc: Global,
-    desk: &Desk,
-    source: &Source,
-    spans: &[Span],
-) -> Result<Vec<Span>, AllocError>
-    ensures { IfOk result (λ found. found.items
-        ≡ filter (is_handed desk.now.timeline.present source.now) spans.now) }
-{
-    let mut found = Vec::new(alloc);
-    for i in 0..spans.len() {
-        if has_parameters(alloc, desk, bytes_of(source, spans[i]))? {
-            found.push(spans[i])?;
-        }
-    }
-    Ok(found)
-}
-
-/// The first of some names that takes a member as an argument.
-fn member_taker<'a>(source: &'a Source, names: &[Span]) -> Option<&'a [u8]>
-    ensures { option_copied result ≡ find takes_member (map (bytes_of source.entry.now) names.now) }
-{
-    for i in 0..names.len() {
-        let name = bytes_of(source, names[i]);
-        if takes_member(name) {
-            return Some(name);
-        }
-    }
-    None
-}
-
-/// The byte at a place, or 0.
-fn byte_at(text: &[u8], at: usize) -> u8
-    ensures { result ≡ byte_at text.now at }
-{
-    match text.get(at) {
-        Some(byte) => *byte,
-        None => 0,
-    }
-}
-
-/// The byte so many bytes before a place, or 0.
-fn byte_before(text: &[u8], at: usize, count: usize) -> u8
-    ensures { result ≡ byte_before text.now at count }
-{
-    if count <= at {
-        byte_at(text, at - count)
-    } else {
-        0
-    }
-}
-
-/// Whether a line is joined to the next one directly before a place.
-fn is_joined_before(text: &[u8], at: usize) -> bool
-    ensures { result ≡ is_joined_before text.now at }
-{
-    byte_before(text, at, 1) == b'\n'
-        && (byte_before(text, at, 2) == b'\\'
-            || (byte_before(text, at, 2) == b'\r' && byte_before(text, at, 3) == b'\\'))
-}
-
-/// Whether one is joined there.
-fn is_joined_at(text: &[u8], at: usize) -> bool
-    requires { at < 2 ^ 32 }
-    ensures { result ≡ is_joined_at text.now at }
-{
-    byte_at(text, at) == b'\\'
-        && (byte_at(text, at + 1) == b'\n'
-            || (byte_at(text, at + 1) == b'\r' && byte_at(text, at + 2) == b'\n'))
-}
-
-/// Whether a byte may go on a name for some compiler, or is a quote.
-fn is_odd(byte: u8) -> bool
-    ensures { result ≡ is_odd byte }
-{
-    byte == b'$' || byte == b'@' || byte == b'"' || byte == b'\'' || 128 <= byte
-}
-
-fn is_beside_odd(text: &[u8], span: Span) -> bool
-    ensures { result ≡ is_beside_odd text.now span }
-{
-    let (start, end) = (span.start as usize, span.end as usize);
-    is_odd(byte_before(text, start, 1))
-        || is_joined_before(text, start)
-        || is_odd(byte_at(text, end))
-        || is_joined_at(text, end)
-}
-
-/// The first use beside such a byte.
-fn first_odd(text: &[u8], uses: &[LocalUse]) -> Option<LocalUse>
-    ensures { result ≡ find (λ (u : OwnUse). is_beside_odd text.now u.name) uses.now }
-{
-    for i in 0..uses.len() {
-        if is_beside_odd(text, uses[i].name) {
-            return Some(uses[i]);
-        }
-    }
-    None
-}
-
-/// The first header that is included in an extent.
-fn first_included(includes: &[Include], extent: Span) -> Option<Span>
-    ensures { result ≡ option_map (λ (h : Header). h.header)
-        (find (λ (h : Header). is_within extent h.header.start) includes.now) }
-{
-    for i in 0..includes.len() {
-        if is_within(extent, includes[i].header.start) {
-            return Some(includes[i].header);
-        }
-    }
-    None
-}
 
 /// Whether no use is left.
 fn ends(uses: &[LocalUse]) -> bool

@@ -4,6 +4,7 @@ ghost use Rattle.std.specs.Prelude.{fold, map, take};
 ghost use Rattle.std.specs.Cmp.Lexicographic.{slice_cmp};
 ghost use Rattle.std.specs.List.{flat_map, prefix_len};
 ghost use Rattle.std.specs.Ordering.{nat_cmp};
+ghost use Rattle.cb_tags.specs.TagLines.{tag_of};
 ghost use Rattle.cb_tags.specs.Writing.{Puts};
 ghost use Rattle.cb_wire.specs.Calls.{call_item_tree, calls_of, side_name};
 ghost use Rattle.cb_wire.specs.Messages.{id_json};
@@ -19,14 +20,14 @@ ghost use Rattle.cb_lsp.specs.Outgoing.{is_call_by, told_by_name};
 ghost use Rattle.cb_lsp.specs.Outgoing.{Called};
 ghost use Rattle.cb_lsp.specs.Refresh.{files_called_in, with_file};
 ghost use Rattle.cb_lsp.specs.steps.Located.{client_in};
+ghost use Rattle.cb_lsp.specs.steps.Nearby.{IsKnown};
 ghost use Rattle.cb_lsp.specs.steps.Outgoing.{FirstGroup, called_in, called_rows, callee_in};
 ghost use Rattle.cb_lsp.specs.steps.Outgoing.{callee_rows, group_in, group_rows, outgoing_left};
 
 use crate::answers::put_list;
-use crate::calls::next_callable;
 use crate::columns::Positions;
 use crate::location::{Forms, Located};
-use crate::nearest::Nearest;
+use crate::nearest::Viewer;
 use crate::place::bytes_of;
 use crate::refresh::FileNames;
 use crate::written::{put_null, put_refusal};
@@ -218,28 +219,51 @@ fn sort_by_first_call(groups: &mut Vec<CalleeGroup<'_, '_>>) -> Result<(), Alloc
     Ok(())
 }
 
-/// Appends each function and macro that is shown of a called name in a file, up to the most.
-fn push_called<'a, 'p>(
-    desk: &'a Desk,
-    file: &[u8],
-    group: &CalleeGroup<'a, 'p>,
+/// Appends what some calls call, up to the most.
+fn push_rows<'a, 'p>(
+    rows: &[TagRow<'a>],
+    calls: &'p [CalleeRow<'a>],
     called: &mut Vec<CalledRow<'a, 'p>>,
 ) -> Result<(), AllocError>
     requires { length called.old.items ≤ 1000 }
     ensures { IfOk result (λ _. called_rows called.new.items ≡ take 1000
         (called_rows called.old.items
-        ++ called_as desk.entry.now.timeline.present file.now (group_in group.now))) }
+        ++ map (λ t. (t, callee_rows calls.entry.now)) (map tag_of rows.now))) }
 {
-    let calls = group.calls;
-    let rows = desk.definitions(group.first.name);
-    let mut rest = Nearest::new(rows, file, Some(Space::Called), false);
+    let mut left = rows;
     'rows: while called.len() < MOST_CALLED {
-        match next_callable(&mut rest) {
-            Some(row) => called.push(CalledRow { row, calls })?,
-            None => return Ok(()),
+        match left {
+            [row, rest @ ..] => {
+                called.push(CalledRow { row: *row, calls })?;
+                left = rest;
+            }
+            [] => return Ok(()),
         }
     }
     Ok(())
+}
+
+/// Appends each function and macro that is shown of a called name in a file, up to the most.
+fn push_called<'a, 'p>(
+    alloc: Global,
+    desk: &'a Desk,
+    viewer: &mut Viewer<'_>,
+    group: &CalleeGroup<'a, 'p>,
+    called: &mut Vec<CalledRow<'a, 'p>>,
+) -> Result<(), AllocError>
+    requires room { length called.old.items ≤ 1000 }
+    requires desk { viewer.old.desk.now ≡ desk.now }
+    requires known { IsKnown viewer.old }
+    ensures called { IfOk result (λ _. called_rows called.new.items ≡ take 1000
+        (called_rows called.old.items
+        ++ called_as desk.now.timeline.present viewer.old.from.now (group_in group.now))) }
+    ensures desk { viewer.new.desk.now ≡ viewer.old.desk.now }
+    ensures from { viewer.new.from.now ≡ viewer.old.from.now }
+    ensures known { IsKnown viewer.new }
+{
+    let rows = desk.definitions(group.first.name);
+    let found = viewer.callables(alloc, rows, Some(Space::Called))?;
+    push_rows(found.as_slice(), group.calls, called)
 }
 
 /// What is shown of the called names in a file.
@@ -253,8 +277,9 @@ fn called_of<'a, 'p>(
         (called_as desk.entry.now.timeline.present file.now) (group_rows groups.now))) }
 {
     let mut called = Vec::new(alloc);
+    let mut viewer = Viewer::new(desk, file);
     'names: for group in groups {
-        push_called(desk, file, group, &mut called)?;
+        push_called(alloc, desk, &mut viewer, group, &mut called)?;
     }
     Ok(called)
 }

@@ -19,7 +19,6 @@ ghost use Rattle.cb_lsp.specs.steps.Elements.{flat_left, places_left, session_le
 use crate::columns::Positions;
 use crate::kind::kind_number;
 use crate::location::{Forms, Located, file_place};
-use crate::nearest::Nearest;
 use crate::place::bytes_of;
 use crate::text::holds_like;
 use cb_desk::{Definitions, Desk, Files, Format, TagRows, is_header};
@@ -157,7 +156,7 @@ impl<'a> Elements for TreeSymbols<'a> {
 #[derive(Drop)]
 pub(crate) struct Places<'a, 'p> {
     pub(crate) places: Located<'a>,
-    pub(crate) rest: Nearest<'a, 'p>,
+    pub(crate) rest: &'p [TagRow<'a>],
 }
 
 impl<'a, 'p> Elements for Places<'a, 'p> {
@@ -168,13 +167,18 @@ impl<'a, 'p> Elements for Places<'a, 'p> {
     fn again(&self) -> Places<'a, 'p> {
         Places {
             places: self.places.again(),
-            rest: self.rest.again(),
+            rest: self.rest,
         }
     }
 
     fn next(&mut self) -> Option<Location<'a>> {
-        let row = self.rest.next()?;
-        Some(self.places.place(&row))
+        match self.rest {
+            [row, rest @ ..] => {
+                self.rest = rest;
+                Some(self.places.place(row))
+            }
+            [] => None,
+        }
     }
 }
 

@@ -5,9 +5,9 @@ use Rattle.std.specs.Borrow.{Bor}
 use Rattle.json.specs.Print.{escape}
 use Rattle.cb_index.specs.steps.Left.{tag_of_spot}
 use Rattle.cb_names.specs.declared.local.LocalUse.{LocalUse}
-use Rattle.cb_tags.specs.TagLines.{Tag}
+use Rattle.cb_tags.specs.TagLines.{Tag, tag_of}
 use Rattle.cb_wire.specs.Values.{value_text}
-use Rattle.cb_lsp.specs.Calls.{callables, item_of}
+use Rattle.cb_lsp.specs.Calls.{item_of}
 use Rattle.cb_lsp.specs.Clients.{Client}
 use Rattle.cb_lsp.specs.Folds.{folded}
 use Rattle.cb_lsp.specs.Headers.{files_named}
@@ -24,7 +24,6 @@ use Rattle.cb_lsp.specs.declared.hover.Hover.{Hover}
 use Rattle.cb_lsp.specs.declared.hover.Hovers.{Hovers}
 use Rattle.cb_lsp.specs.declared.local.LocalMarks.{LocalMarks}
 use Rattle.cb_lsp.specs.declared.local.LocalUses.{LocalUses}
-use Rattle.cb_lsp.specs.declared.nearest.Nearest.{Nearest}
 use Rattle.cb_lsp.specs.declared.references.UsePlaces.{UsePlaces}
 use Rattle.cb_lsp.specs.declared.symbols.FileDefs.{FileDefs}
 use Rattle.cb_lsp.specs.declared.symbols.FlatSymbols.{FlatSymbols}
@@ -35,7 +34,6 @@ use Rattle.cb_lsp.specs.declared.symbols.Places.{Places}
 use Rattle.cb_lsp.specs.declared.symbols.SessionSymbols.{SessionSymbols}
 use Rattle.cb_lsp.specs.declared.symbols.TreeSymbols.{TreeSymbols}
 use Rattle.cb_lsp.specs.steps.Located.{client_in}
-use Rattle.cb_lsp.specs.steps.Nearby.{nearest_left}
 use Rattle.cb_lsp.specs.steps.References.{references_left}
 
 -- what a client takes of the definitions of a file
@@ -65,7 +63,7 @@ tree_left s = defs_left true s.defs
 
 abbrev pub places_left : Places → List (List ℕ)
 places_left p =
-    map (λ t. value_text (place_of p.places.client p.places.files t)) (nearest_left p.rest)
+    map (λ t. value_text (place_of p.places.client p.places.files t)) (map tag_of p.rest.now)
 
 abbrev pub uses_left : UsePlaces → List (List ℕ)
 uses_left p =
@@ -108,11 +106,8 @@ abbrev pub folds_left : Folds → List (List ℕ)
 folds_left f = map value_text (folded f.source.now f.rest.now)
 
 abbrev pub hovers_left : Hovers → List (List ℕ)
-hovers_left h = map (λ t. escape (hover_text t)) (nearest_left h.rest)
-
-abbrev pub callables_left : Nearest → List Tag
-callables_left n = callables (nearest_left n)
+hovers_left h = map (λ t. escape (hover_text t)) (map tag_of h.rest.now)
 
 abbrev pub items_left : CallItems → List (List ℕ)
 items_left i =
-    map (λ t. value_text (item_of i.places.client i.places.files t)) (callables_left i.rest)
+    map (λ t. value_text (item_of i.places.client i.places.files t)) (map tag_of i.rest.now)

@@ -19,24 +19,24 @@ returns-in-Ok g c =
     let q = c.args.question in
     let word = word_at f.source.now c.args.place in
     let call = c.put_about_word in (
-      false,
+      call.ensures.0,
       subst (λ o. Puts c.args.out.now call.new.out call.result
-          (frame (value_text (result_unless false (id_json c.args.id)
+          (frame (value_text (result_unless call.ensures.0 (id_json c.args.id)
           (name_answer (client_in f.forms) w f.name.now f.source.now o
           (space_asked f.facts.now.defs f.source.now c.args.place word q) word q)))))
           (sym c.in-Ok-None.field-0-is ∙ c.in-Ok-None.ensures
           ∙ ap (λ t. local_at t c.args.place) c.requires.code)
           (subst (λ s. Puts c.args.out.now call.new.out call.result
-          (frame (value_text (result_reply (id_json c.args.id)
+          (frame (value_text (result_unless call.ensures.0 (id_json c.args.id)
           (word_answer (client_in f.forms) w f.name.now f.source.now s word q)))))
           (c.in-Ok.ensures
           ∙ ap (λ o. space_asked f.facts.now.defs f.source.now c.args.place o q)
           c.word_at-word.ensures)
           (subst (λ o. Puts c.args.out.now call.new.out call.result
-          (frame (value_text (result_reply (id_json c.args.id)
+          (frame (value_text (result_unless call.ensures.0 (id_json c.args.id)
           (word_answer (client_in f.forms) w f.name.now f.source.now
           c.in-Ok.space o q)))))
-          c.word_at-word.ensures call.ensures)),
+          c.word_at-word.ensures call.ensures.1)),
     )
 
 pub returns-in-Ok-Some : goal.returns-in-Ok-Some

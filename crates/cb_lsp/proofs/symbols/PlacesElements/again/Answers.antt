@@ -1,4 +1,5 @@
 use Rattle.std.proofs.Common.{map}
+use Rattle.cb_tags.specs.TagLines.{tag_of}
 use Rattle.cb_wire.specs.Values.{value_text}
 use Rattle.cb_lsp.specs.Symbols.{place_of}
 use Rattle.cb_lsp.proofs.symbols.PlacesElements.again.Goals as goal
@@ -6,4 +7,4 @@ use Rattle.cb_lsp.proofs.symbols.PlacesElements.again.Goals as goal
 pub returns : goal.returns
 returns c =
     λ i. map (λ t. value_text (place_of (c.again.ensures i).client (c.again.ensures i).files t))
-    (c.again-2.ensures i)
+    (map tag_of c.args.self.now.rest.now)
