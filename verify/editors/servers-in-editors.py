@@ -1121,12 +1121,13 @@ def declarations(plan: Plan, has_prototypes: bool) -> None:
         plan.look("declare", file, line, column, is_now=[place[:3]])
     plan.ask("declaration", ITEMS_H, 7, 32, is_now=[])  # count, a parameter of a prototype
     plan.look("declare", ITEMS_H, 7, 32, is_now=[])
-    if has_prototypes:  # two of them: the nearest first
+    if has_prototypes:  # two of them: that of the header that the file includes, or its own
         here, there = (ITEMS_H, 8, 4, 8), (deep, 1, 4, 8)
         plan.do("type", ITEMS_H, 8, ["int grow(int n);"])
         plan.do("open", "lib/list.c")
-        plan.ask("declaration", main, 11, 40, is_now=[here, there])
-        plan.ask("declaration", "lib/list.c", 1, 5, is_now=[there, here])
+        plan.ask("declaration", main, 11, 40, is_now=[there])
+        plan.ask("declaration", ITEMS_H, 8, 5, is_now=[here])
+        plan.ask("declaration", "lib/list.c", 1, 5, is_now=[there])
         plan.ask("declaration", deep, 1, 5, is_now=[there])
         plan.ask("definition", main, 11, 40, is_now=[("lib/list.c", 1, 4, 8)])
 

@@ -126,12 +126,14 @@ def local_at(text, place):
 
 
 def space_at(text, place):
-    """The name space of the name of the code at a place, or none: a label is no space here."""
+    """The name space of the name at a place, or none: a label is no space here."""
     names = names_of(text)
     token = names.token_at(place)
-    index = names.index.get(token.place) if token else None
-    if index is None or token.place in names.left_out:
+    if token is None or token.place in names.left_out:
         return None
+    index = names.index.get(token.place)
+    if index is None:
+        return space_in_directive(*names.stream_at(token.place))
     code = names.code
     before, after = code.before(index), code.following(index)
     touches = code.before(before) == before - 1 and code.touch(before - 1)
@@ -152,6 +154,19 @@ def space_at(text, place):
     if is_tag:
         return code.text(word).decode()
     return "called" if code.text(after) == b"(" else "plain"
+
+
+def space_in_directive(line, index):
+    """The name space of a name of a directive, or none: a parameter of a macro is no space here."""
+    if line.text(1) in names_model.CONDITIONS or (line.text(1) == b"define" and index == 2):
+        return "macro"
+    if line.text(1) != b"define":
+        return None
+    if line.is_dot(index - 1) or line.is_arrow(index - 2):
+        return "member"
+    if line.text(index - 1) in (b"struct", b"union", b"enum"):
+        return line.text(index - 1).decode()
+    return "called" if line.text(index + 1) == b"(" else "plain"
 
 
 def locals_of(text):

@@ -1,15 +1,17 @@
 """Wrong rules that a tired programmer could write, each in place of one of `names_model.py`.
 
 `random-names.py --self-test` has to find each, and `random-editors.py --self-test` those at the
-end, which are of renames of locals.
+end, which are of renames of locals and of what is shown of a name.
 """
 
 from __future__ import annotations
 
 import functools
+import re
 
 from names_model import PARTNER, Scope, Text, Thing
 from reach_model import STRANGE, Macro, Refusal, Tree
+from text_model import headers
 from wide_model import name_of
 
 
@@ -634,4 +636,56 @@ RENAME_PLANTS = [
     *map(with_macros, [
         MembersCount, TagsCount, DesignatorIsMember, ParametersCount, PastedIsPlain, ArgumentsStay,
     ]),
+]  # fmt: skip
+
+
+# ---- what is shown of a name
+
+
+class OneStepOfIncludes(Tree):
+    """What a file includes counts, but not what that includes."""
+
+    def closure(self, file):
+        named = [self.header(file, name) for _, name in headers(self.files[file])]
+        return {file, *named} - {None}
+
+
+class StepsAreForgotten(Tree):
+    """The steps at the front of a header do not count."""
+
+    def header(self, file, name):
+        return super().header(file, re.sub(rb"^(\.{1,2}/)+", b"", name))
+
+
+class NearnessOrders(Tree):
+    """The nearest comes first, but all is shown."""
+
+    def nearest(self, file, found):
+        return found
+
+
+class NothingBehind(Tree):
+    """Nothing is shown behind what is included."""
+
+    def behind(self, included, found):
+        return []
+
+
+class FunctionsBehind(Tree):
+    """Functions of other sources are shown behind a function that is included."""
+
+    def behind(self, included, found):
+        return super().behind([], [one for one in found if one not in included])
+
+
+class IncludedIsPrivate(Tree):
+    """What is private to a file that is included is not in view."""
+
+    def is_in_view(self, file, one):
+        return not self.is_private(one) or one.file == file
+
+
+SHOWN_PLANTS = [
+    OneStepOfIncludes, StepsAreForgotten, NearnessOrders, NothingBehind, FunctionsBehind,
+    IncludedIsPrivate,
 ]  # fmt: skip

@@ -14,22 +14,23 @@ variables and parameters of macros, at headers and at any other place, in both e
 and trees. The folder holds the texts of the files, or other ones, and links, hard links, folders
 and pipes. In some sessions it is written to between two messages, with an event or without: files
 change, vanish and come back, or get a second name. Clients can be asked for events or not. Some
-sessions have more files of one name than are read again. Names are renamed, often where each file
-was opened or is on disk as the server has it, and then the client makes the edits: in each file the
-new name has to be used where the old one was, and nowhere else. In some sessions mostly locals and
-parameters of macros are renamed, in texts with macros that reach them, directives in functions and
-odd bytes beside names, and the new name is often bad, taken or used. Texts have CR LF, lone CRs,
-byte order marks, letters outside ASCII, halves of surrogate pairs and, in files and in messages,
-bytes that are not UTF-8. Paths, of the command line too, have empty segments and dots, or lead
-outside the root. Some messages have wrong parameters, ids or members, and between changes of
-documents some are cut, are not JSON or are too large; some heads are odd, and some inputs end
+sessions have more files of one name than are read again. In some, most files include each other and
+have the same few names, and most questions ask what is shown of them. Names are renamed, often
+where each file was opened or is on disk as the server has it, and then the client makes the edits:
+in each file the new name has to be used where the old one was, and nowhere else. In some sessions
+mostly locals and parameters of macros are renamed, in texts with macros that reach them, directives
+in functions and odd bytes beside names, and the new name is often bad, taken or used. Texts have CR
+LF, lone CRs, byte order marks, letters outside ASCII, halves of surrogate pairs and, in files and
+in messages, bytes that are not UTF-8. Paths, of the command line too, have empty segments and dots,
+or lead outside the root. Some messages have wrong parameters, ids or members, and between changes
+of documents some are cut, are not JSON or are too large; some heads are odd, and some inputs end
 within a message. The input comes in random pieces. Standard output, standard error and the status
 are compared with `server_model.py`.
 
 At the first difference the seed, the input and both outputs are shown and the exit status is 1.
 Else lines tell how often each message was sent and each reply came. The self-test puts each wrong
-rule for renames of `names_plants.py` in the place of the right one, and tells how many sessions it
-takes to see the difference.
+rule of `names_plants.py` for renames and for what is shown in the place of the right one, and tells
+how many sessions it takes to see the difference.
 """
 
 from __future__ import annotations
@@ -50,10 +51,11 @@ from typing import NamedTuple, Optional
 
 from disk_model import Disk, Write, do_on_disk
 from draw import Draw
+from draw_includes import ALL_NAMES, DrawIncludes
 from draw_names import DrawNames
 from draw_renames import DrawRenames
 from locals_model import locals_of, names_of
-from names_plants import RENAME_PLANTS
+from names_plants import RENAME_PLANTS, SHOWN_PLANTS
 from reach_model import Tree
 from server_model import MOST_BODY, Ended, Outcome, Server, frame, name_of_operand
 from server_model import place_of, position_of, serve
@@ -77,6 +79,7 @@ CROWDED = ["int f(void) {{ return {}(1); }}\n", "#define f(x) {}(x)\n", "int f(i
            "int ab(void) {{ f({}); }}\n", "int g(void) {{ return {}(f(1)); }}\n"]
 WAYS = ("definition", "declaration", "hover", "prepareCallHierarchy", "references", "rename",
         "incoming")
+SHOWING = (*WAYS[:4], "definition", "declaration")
 LOCAL_WAYS = [*WAYS[:6], "documentHighlight", "documentHighlight", "references", "prepareRename"]
 SYNC = b'{"id":"sync","method":"sync"}'  # its reply says that all before it was read
 DETOURS = ["//", "//", "/./", "/./", "///.//", "/../", "/x/../", "/.../", "/.x/"]
@@ -177,7 +180,11 @@ class Editor:
     def __init__(self, seed: int, home: str):
         self.random, self.draw = random.Random(f"editor {seed}"), Draw(seed)
         self.names, self.renames = DrawNames(seed), DrawRenames(seed)
+        self.includes = DrawIncludes(seed, NAMES)
+        self.is_of_includes = self.chance(0.3)  # more texts of its kind are drawn
         self.profile = self.one(b"", b"", b"", b"--wide", b"--prototypes")
+        if self.is_of_includes and self.chance(0.8):
+            self.profile = self.one(b"--wide", b"--prototypes", b"--prototypes", b"--prototypes")
         self.folder = self.one(*FOLDERS) if self.chance(0.25) else None
         self.bounds = Bounds()
         if self.chance(0.1):
@@ -192,7 +199,8 @@ class Editor:
         self.files: dict[str, bytes] = {}  # by the words that name them
         self.next: list[dict] = []  # what is to be sent before anything else is drawn
         self.is_renaming = False  # the next ones rename
-        self.is_of_locals = self.chance(0.4)  # more texts and renames of locals are drawn
+        # more texts and renames of locals are drawn
+        self.is_of_locals = self.chance(0.1 if self.is_of_includes else 0.4)
         self.edited: dict[bytes, list[bytes]] = {}  # the names that files have to use then
         self.disk = Disk()
         # the program runs in its root
@@ -218,7 +226,8 @@ class Editor:
         return {name: self.one(*CROWDED).format(self.one(*WORDS)).encode() for name in names}
 
     def drawn_files(self) -> dict[str, bytes]:
-        names = self.random.sample(NAMES, self.one(0, 1, 2, 3, 5, 8))
+        numbers = (5, 10, 14) if self.is_of_includes else (0, 1, 2, 3, 5, 8)
+        names = self.random.sample(NAMES, self.one(*numbers))
         if self.chance(0.1):
             names.insert(0, STEPPING)
         return {name: self.text() for name in names}
@@ -352,6 +361,8 @@ class Editor:
 
     def text(self) -> bytes:
         """The bytes of a file."""
+        if self.is_of_includes and self.chance(0.85):
+            return self.with_odd_bytes(self.includes.text(), 0, 0, 0, 0, 0, 0, 0, 1)
         if self.is_of_locals and self.chance(0.8):
             text = self.with_odd_bytes(self.renames.text(), 0, 0, 0, 0, 0, 0, 1, 2)
             return MARK + text if self.chance(0.03) else text
@@ -613,6 +624,13 @@ class Editor:
         ways = ("references", "rename", "incoming") if self.chance(0.9) else WAYS
         return self.about(self.one(*files), b"f", ways) if files else self.at_place()
 
+    def about_shown(self) -> dict:
+        """A question about what is shown of a name that a file uses, or of what it calls."""
+        if self.chance(0.15):
+            return self.callees()
+        files, name = self.server.world.files, self.one(*ALL_NAMES).encode()
+        return self.about(self.one(*files), name, SHOWING) if files else self.at_place()
+
     def references(self) -> dict:
         uri = self.uri()
         params = {"textDocument": {"uri": uri}, "position": self.position(uri)}
@@ -789,6 +807,7 @@ class Editor:
             self.references: 6,
             self.about_local: 8,
             self.about_crowd: 40 if self.is_crowd else 0,
+            self.about_shown: 200 if self.is_of_includes else 4,
             self.rename: 20 if self.stays_closed else 4,
             self.rename_local: 60 if self.is_of_locals else 6,
             self.symbols: 5,
@@ -1006,8 +1025,8 @@ def batch(cbrowse: str, first: int, number: int):
 
 
 def self_test(first: int, number: int) -> int:
-    """Looks for the first session that tells each wrong rule of renames from the right one."""
-    left = [*RENAME_PLANTS]
+    """Looks for the first session that tells each wrong rule from the right one."""
+    left = [*RENAME_PLANTS, *SHOWN_PLANTS]
     for seed in range(first, first + number):
         with tempfile.TemporaryDirectory() as home:
             session = Editor(seed, home).session()

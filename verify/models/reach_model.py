@@ -128,19 +128,6 @@ def distance(one, other):
     return len(folders(one)) + len(folders(other)) - 2 * shared
 
 
-def resolved(path):
-    """A path without `.` and `..`, or none where it leads out of the folder of all files."""
-    begin, parts = b"/" if path.startswith(b"/") else b"", []
-    for part in path.split(b"/"):
-        if part == b".." and not parts:
-            return None
-        if part == b"..":
-            parts.pop()
-        elif part not in (b"", b"."):
-            parts.append(part)
-    return begin + b"/".join(parts)
-
-
 class Tree:
     """A set of files, by name, and what their names mean."""
 
@@ -160,12 +147,14 @@ class Tree:
     # ---- what files name
 
     def header(self, file, name):
-        """The file that a header of a file names, or none."""
-        beside = resolved(b"/".join([*folders(file), name]))
-        if beside in self.files:
+        """The file that a header of a file names, or none. The steps at its front count: `./` stays
+        in the folder of the file, and `../` leaves it."""
+        steps, rest = re.fullmatch(rb"((?:\.{1,2}/)*)(.*)", name, re.DOTALL).groups()
+        here, above = folders(file), steps.count(b"../")
+        beside = b"/".join([*here[: len(here) - above], rest])
+        if above <= len([it for it in here if it]) and beside in self.files:
             return beside
-        tail = re.sub(rb"^(\.{1,2}/)+", b"", name)
-        named = [one for one in self.files if one == tail or one.endswith(b"/" + tail)]
+        named = [one for one in self.files if one == rest or one.endswith(b"/" + rest)]
         return min(named, key=lambda one: (distance(file, one), one), default=None)
 
     def closure(self, file):
@@ -248,29 +237,20 @@ class Tree:
         return self.ordered(file, self.candidates(file, place))
 
     def ordered(self, file, found, are_declarations=False):
-        """Which of some definitions count in a file, in their order."""
+        """Which of some definitions count in a file, in their order: all that declare the name, or
+        all that define it, if there are some."""
         closure = self.closure(file)
         found = [one for one in found if self.is_in_view(file, one)] or found
-        if are_declarations:
-            found = [one for one in found if one.kind in (b"x", b"p")]
-        else:
-            found = [one for one in found if one.kind not in (b"x", b"p")] or found
+        found = [one for one in found if (one.kind in b"xp") == are_declarations] or found
         here = [one for one in found if one.file == file]
         included = [one for one in found if one.file in closure]
         if here:
             found = here
         elif included:
-            has_function = any(one.kind == b"f" for one in included)
-            found = [
-                one
-                for one in found
-                if one.file in closure
-                or (not has_function and one.kind in (b"f", b"v") and one.file.endswith(b".c"))
-            ]
-        elif found:
-            found = [one for one in found if one.kind in (b"f", b"v")] or found
-            nearest = min(distance(file, one.file) for one in found)
-            found = [one for one in found if distance(file, one.file) == nearest]
+            found = included + self.behind(included, found)
+        else:
+            named = [one for one in found if one.kind in b"fv"]
+            found = self.nearest(file, named or found)
         return sorted(
             found,
             key=lambda one: (
@@ -281,15 +261,28 @@ class Tree:
             ),
         )
 
+    def behind(self, included, found):
+        """The functions and variables of sources that count behind what is included, if that has no
+        function."""
+        if any(one.kind == b"f" for one in included):
+            return []
+        return [
+            one
+            for one in found
+            if one not in included and one.kind in b"fv" and one.file.endswith(b".c")
+        ]
+
+    def nearest(self, file, found):
+        """Those of some definitions that are at the smallest distance."""
+        smallest = min((distance(file, one.file) for one in found), default=0)
+        return [one for one in found if distance(file, one.file) == smallest]
+
     def declaration(self, file, place):
-        """The external declarations and prototypes of a name that are in view, or of all files if
-        nothing is in view; else what its definition is."""
-        thing = self.text(file).binding(place)
-        if thing.kind == "free":
-            declared = self.ordered(file, self.candidates(file, place), True)
-            if declared:
-                return [(one.file, one.place) for one in declared]
-        return self.definition(file, place)
+        """Where the declarations of a name stand; else what its definition is."""
+        if self.text(file).binding(place).kind != "free":
+            return self.definition(file, place)
+        declared = self.ordered(file, self.candidates(file, place), True)
+        return [(one.file, one.place) for one in declared]
 
     def definition(self, file, place):
         """Where the definitions of a name stand: files and places."""

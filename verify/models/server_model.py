@@ -2,9 +2,9 @@
 
 Messages are framed and judged here, documents are opened, changed and closed, and requests are
 answered. What texts hold is in `text_model.py` and `wide_model.py`, what a name means in its
-function alone in `locals_model.py`, and what a rename of such a name does in `reach_model.py`.
-Which texts and names of files are accepted is in `session_model.py`, and what is found on disk in
-`disk_model.py`. Memory never runs out here.
+function alone in `locals_model.py`. What is shown of any other name, and what a rename does, is in
+`reach_model.py`. Which texts and names of files are accepted is in `session_model.py`, and what is
+found on disk in `disk_model.py`. Memory never runs out here.
 """
 
 from __future__ import annotations
@@ -481,26 +481,12 @@ KINDS_OF_SPACES = {
     "enum": [b"g", b"sug", b"d"],
     "called": [b"fdp", ORDINARY],
     "plain": [ORDINARY],
+    "macro": [b"d"],
 }
 
 
 def of_kinds(places, kinds):
     return [it for it in places if it.definition.kind in kinds]
-
-
-def is_private(place):
-    """Whether a definition is private to its file."""
-    one = place.definition
-    return place.file.endswith(b".c") and (one.local or one.kind not in b"fvxp")
-
-
-def apart(one, other):
-    """How many folders of two files the other one does not share."""
-    here, there = one.split(b"/")[:-1], other.split(b"/")[:-1]
-    same = 0
-    while same < min(len(here), len(there)) and here[same] == there[same]:
-        same += 1
-    return len(here) + len(there) - 2 * same
 
 
 class Place(NamedTuple):
@@ -509,11 +495,23 @@ class Place(NamedTuple):
     file: bytes
     definition: text_model.Definition
 
+    @property
+    def kind(self):
+        return self.definition.kind
+
+    @property
+    def place(self):
+        return self.definition.place
+
+    @property
+    def is_local(self):
+        return self.definition.local
+
 
 class Server:
     """The state of a server, and what it has written."""
 
-    tree_of = Tree  # what renames locals
+    tree_of = Tree  # what is shown of a name, and what a rename of a local does
 
     def __init__(self, bounds=Bounds(), profile=b"", folder=None, disk=None):
         self.world, self.documents = World({}, bounds=bounds), {}
@@ -858,12 +856,7 @@ class Server:
         named, kinds = self.named(name)[0], KINDS_OF_SPACES[space]
         wanted = next((one for one in kinds if of_kinds(named, one)), kinds[-1])
         found = of_kinds(named, wanted)
-        if wanted == b"m":
-            return found
-        seen = [it for it in found if it.file == file or not is_private(it)] or found
-        seen = [it for it in seen if (it.definition.kind in (b"x", b"p")) == declared] or seen
-        own = [it for it in seen if it.file == file]
-        return own or sorted(seen, key=lambda it: min(apart(file, it.file), 16))
+        return found if wanted == b"m" else self.tree.ordered(file, found, declared)
 
     @staticmethod
     def is_word_of(one, word):
