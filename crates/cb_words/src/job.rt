@@ -1,8 +1,8 @@
 //! What the words of the command line ask for.
 ghost use Rattle.std.specs.Prelude.{◌≡◌, MatchResult, map, string_bytes};
-ghost use Rattle.clap.specs.Words.{kind_of, subcommand_of};
+ghost use Rattle.clap.specs.Words.{kind_of, subcommand_of, subcommand_rows_of};
 ghost use Rattle.cb_words.specs.Jobs.{browse_app, IsJobOf};
-ghost use Rattle.cb_words.specs.Usages.{IsUsageOf, TellsKind};
+ghost use Rattle.cb_words.specs.Usages.{IsUsageOf, TellsKind, no_job_text};
 
 mod command;
 mod matched;
@@ -109,7 +109,9 @@ pub fn job_of(alloc: Global, words: &[String]) -> Result<Job, Usage>
 /// What is said of words that clap takes and that give no job: clap refuses other formats and
 /// bounds, so what they lack is `--wide` or a file, or they ask for a list on an input that has
 /// commands or messages, or for a root that is no path from `/`.
-fn no_job_text(matches: &ArgMatches<'_>) -> &'static str {
+fn no_job_text(matches: &ArgMatches<'_>) -> &'static str
+    ensures { result.now ≡ no_job_text (subcommand_rows_of matches.now) }
+{
     match matches.subcommand() {
         Some((_, found)) if matched::rules_of(found).is_none() =>
             "error: the following required arguments were not provided:\n  --wide\n\nFor more information, try '--help'.\n",

@@ -1,6 +1,7 @@
 use Rattle.std.proofs.Common.{◌≡◌, ◌∙◌, ap, inr, sym, subst, map, string_bytes}
 use Rattle.clap.specs.Words.{is_simple, is_simple_and_free, subcommand_of, subcommand_rows_of}
 use Rattle.cb_words.specs.Jobs.{browse_app, IsJobOf}
+use Rattle.cb_words.specs.Usages.{no_job_text}
 use Rattle.cb_words.proofs.Choices.{same_found}
 use Rattle.cb_words.proofs.Refusing.{usage_from_kind, usage_from_search}
 use Rattle.cb_words.proofs.job.job_of.Goals as goal
@@ -39,4 +40,7 @@ returns c =
     let same : subcommand_rows_of c.in-Ok.matches ≡ subcommand_of browse_app words =
     found.1 ∙ ap (λ a. subcommand_of a words) app.2 ∙ sym (same_found app.0 words) in
     let none = rw c.in-None.is at c.in-Ok-found_job.ensures in
-    inr (λ job is. none job (subst (λ o. IsJobOf o job) (sym same) is))
+    inr (
+      (λ job is. none job (subst (λ o. IsJobOf o job) (sym same) is)),
+      c.in_ok-from_str-in-None.ensures.ok ∙ c.no_job_text.ensures ∙ ap no_job_text same,
+    )
