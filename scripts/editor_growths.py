@@ -29,14 +29,18 @@ MOST_BYTES = 200_000  # of a file
 FILES = {
     "a.c": b'#include "b.h"\nint f(void) {\n\treturn g(TWICE(1));\n}\n',
     "b.h": b"#define TWICE(x) ((x) + (x))\nstatic int g(int a) { return a; }\n",
+    "c.h": b"#define TWICE(x) (2 * (x))\n",  # so that what a.c includes is asked for
 }
 ROOM = tempfile.TemporaryDirectory(prefix="a tree ")  # the root, where a file is read again
 pathlib.Path(ROOM.name, "disk.h").write_bytes(b"#define D TWICE(5)\n" * 200)
-pathlib.Path(ROOM.name, "b.h").write_bytes(FILES["b.h"])  # a rename finds it as it is here
+for name in ("b.h", "c.h"):  # a rename finds them as they are here
+    pathlib.Path(ROOM.name, name).write_bytes(FILES[name])
 TOO_LARGE = " " * (MOST_BYTES + 1)
 NOT_JSON = "{"
 WORDS = ["lsp", "--max-file-bytes", str(MOST_BYTES), *FILES]
-AT_START = [b"cbrowse: " + name + b"out of memory\n" for name in (b"", b"a.c: ", b"b.h: ")]
+AT_START = [
+    b"cbrowse: " + name + b"out of memory\n" for name in (b"", b"a.c: ", b"b.h: ", b"c.h: ")
+]
 # requests that name a position
 OTHERS = "definition hover references documentHighlight prepareRename rename".split()
 OTHERS += ["prepareCallHierarchy", "completion"]
@@ -236,7 +240,7 @@ class Editing:
             tells = []
             if "id" in step.message:
                 tells.append(error_to(step.message["id"]))
-                for file in ("a.c", "b.h", "disk.h", "new.c"):
+                for file in ("a.c", "b.h", "c.h", "disk.h", "new.c"):
                     tell = told_by("showMessage", 2, file + ": ")
                     found[0, out + tell + whole[len(out) :]] = f"{file} before reply {number}"
             if is_event:
