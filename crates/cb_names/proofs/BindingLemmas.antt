@@ -9,6 +9,7 @@ use Rattle.cb_names.specs.Accesses.{access}
 use Rattle.cb_names.specs.Bindings.{binding, declares_in, inner, is_bound_in, seen_before, sees, use_of, variable_by, variable_of}
 use Rattle.cb_names.specs.Labels.{span}
 use Rattle.cb_names.specs.Locals.{uses_where}
+use Rattle.cb_names.specs.OwnNames.{is_bound}
 use Rattle.cb_names.specs.Pairs.{at}
 use Rattle.cb_names.specs.declared.word.Item.{Item}
 use Rattle.cb_names.specs.declared.scopes.Scope.{Scope}
@@ -166,6 +167,14 @@ module _ (declares : ℕ → Bool) (scope : ℕ → Scope) where
       begins_at first (binding declares scope k)
       ∙ (λ i. seen_far first k (suc k) i && not (seen_far (suc first) k (suc k) i))
 
+  -- one is seen exactly where some are seen that far
+  any_begins : (o : Option ℕ) → option_map_or (λ d. true) o false ≡ begins 0 o
+  any_begins None = refl
+  any_begins (Some d) = sym (le-leb 0 (scope d).first (omega arith))
+
+  pub bound_far : (k : ℕ) → is_bound declares scope k ≡ nat_lt k (far declares scope 0 (suc k))
+  bound_far k = any_begins (binding declares scope k) ∙ seen_far 0 k (suc k)
+
   -- what is seen stands before
   pub seen_less : (k n d : ℕ) → seen_before declares scope k n ≡ Some d → d < n
   unfolding seen_before
@@ -224,6 +233,9 @@ module _ (p q : ℕ → Bool) (s t : ℕ → Scope) (l : ℕ) (same : (i : ℕ) 
           → option_map_or (λ d. (s d).first == first) o false ≡ option_map_or (λ d. (t d).first == first) o false
       by None within = refl
       by (Some d) within = ap (λ (x : Scope). x.first == first) (alike d (within d refl))
+
+  pub any_same : (k : ℕ) → k < l → is_bound p s k ≡ is_bound q t k
+  any_same k less = ap (λ o. option_map_or (λ d. true) o false) (seen_same k (suc k) (omega (arith, less)))
 
 -- and they give the same local
 module _ (xs : List Item) (named named' p q : ℕ → Bool) (s t : ℕ → Scope)

@@ -6,14 +6,14 @@ use Rattle.std.proofs.Math.Bool.{and-false}
 use Rattle.std.proofs.lemmas.Bool.{lt-ltb}
 use Rattle.std.proofs.lemmas.List.{map-append}
 use Rattle.std.specs.Prelude.{◌&&◌, ◌||◌, cond, filter, find, nat_lt, slice_index_or, take}
-use Rattle.std.specs.List.{AllByRecursion, flat_map, range_with_len}
+use Rattle.std.specs.List.{AllByRecursion, flat_map, list_any, range_with_len}
 use Rattle.cb_scan.specs.declared.rules.scope.Range.{Range}
 use Rattle.cb_scan.specs.declared.rules.wide.token.WideToken.{WideToken}
 use Rattle.cb_scan.specs.CodeTokens.{IsTokenOf}
 use Rattle.cb_names.specs.declared.word.Item.{Item}
 use Rattle.cb_names.specs.Braces.{is_name_at}
 use Rattle.cb_names.specs.Functions.{IsItemOf, before, extent, head_before, own_items}
-use Rattle.cb_names.specs.HardAttributes.{is_left_out, kept_at}
+use Rattle.cb_names.specs.HardAttributes.{is_left_out, kept_at, without_hard}
 use Rattle.cb_names.specs.Labels.{follows_goto, is_same, label_named, label_of, label_use, names_label}
 use Rattle.cb_names.specs.Locals.{uses_where}
 use Rattle.cb_names.specs.declared.local.LocalUse.{LocalUse}
@@ -25,7 +25,7 @@ use Rattle.cb_names.specs.steps.Labelling.{defines, is_label_by, names_label_by,
 use Rattle.cb_names.proofs.HardLemmas.{range_more}
 use Rattle.cb_scan.proofs.WithinLemmas.{all-append, all-drop, all-take}
 
-map-cond : (f : ℕ → LocalUse) (b : Bool) (a : ℕ) (l : List ℕ) → map f (cond b (a ∷ l) l) ≡ cond b (f a ∷ map f l) (map f l)
+map-cond : {A : Type 0} (f : ℕ → A) (b : Bool) (a : ℕ) (l : List ℕ) → map f (cond b (a ∷ l) l) ≡ cond b (f a ∷ map f l) (map f l)
 map-cond f true a l = refl
 map-cond f false a l = refl
 
@@ -46,6 +46,12 @@ module _ (p : ℕ → Bool) where
       sym (ap (find p) (range_first j n less)
       ∙ ap (λ b. cond b (Some j) (find p (range_with_len (j + 1) (n - (j + 1))))) isnt)
 
+  pub any_later : (j n : ℕ) → j < n → p j ≡ false
+      → list_any p (range_with_len (j + 1) (n - (j + 1))) ≡ list_any p (range_with_len j (n - j))
+  any_later j n less isnt =
+      sym (ap (list_any p) (range_first j n less)
+      ∙ ap (λ b. b || list_any p (range_with_len (j + 1) (n - (j + 1)))) isnt)
+
 module _ (p q : ℕ → Bool) where
   pub find_same : (a n : ℕ) → ((j : ℕ) → a ≤ j → j < a + n → p j ≡ q j)
       → find p (range_with_len a n) ≡ find q (range_with_len a n)
@@ -55,7 +61,7 @@ module _ (p q : ℕ → Bool) where
       (find_same (a + 1) n (λ j le less. same j (omega (arith, le)) (omega (arith, less))) i))
 
   -- nor does it matter what a test refuses
-  pub uses_same_by : (f g : ℕ → LocalUse) (a n : ℕ)
+  pub uses_same_by : {A : Type 0} (f g : ℕ → A) (a n : ℕ)
       → ((j : ℕ) → a ≤ j → j < a + n → p j ≡ q j) → ((j : ℕ) → a ≤ j → j < a + n → f j ≡ g j)
       → map f (filter p (range_with_len a n)) ≡ map g (filter q (range_with_len a n))
   uses_same_by f g a zero same alike = refl
@@ -111,7 +117,7 @@ module _ (text : List ℕ) (xs : List Item) (b k : ℕ) (table : List Bool) (t :
 
 -- ---- tokens that lie in a text
 module _ (text : List ℕ) where
-  all_items : (ts : List WideToken) → AllByRecursion (IsTokenOf text) ts → AllByRecursion (IsItemOf text) (map (item_of text) ts)
+  pub all_items : (ts : List WideToken) → AllByRecursion (IsTokenOf text) ts → AllByRecursion (IsItemOf text) (map (item_of text) ts)
   all_items [] a = a
   all_items (x ∷ ts) a = (a.0, all_items ts a.1)
 
@@ -129,10 +135,14 @@ module _ (text : List ℕ) where
       [ true ↦ tt | false ↦ (all_at xs a (omega (arith, le)) all, tt) ])
       (all_kept xs (a + 1) n (omega (arith, le)) all)
 
+  pub all_kept_of : (xs : List Item) → AllByRecursion (IsItemOf text) xs
+      → AllByRecursion (IsItemOf text) (without_hard xs)
+  all_kept_of xs = all_kept xs 0 (length xs) (omega arith)
+
   pub all_own : (ts : List WideToken) (r : Range) → AllByRecursion (IsTokenOf text) ts
       → AllByRecursion (IsItemOf text) (own_items (map (item_of text) ts) r)
   all_own ts r a =
       let xs = map (item_of text) ts in
-      all_kept (extent xs r) 0 (length (extent xs r)) (omega arith)
+      all_kept_of (extent xs r)
       (all-drop (IsItemOf text) (head_before xs (before r.name.start xs)) (take (before r.end xs) xs)
       (all-take (IsItemOf text) (before r.end xs) xs (all_items ts a)))

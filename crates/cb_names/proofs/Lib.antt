@@ -9,6 +9,7 @@ pub mod LabelLemmas
 pub mod ListLemmas
 pub mod MacroLemmas
 pub mod NestingLemmas
+pub mod OwnLemmas
 pub mod PairingLemmas
 pub mod ParameterLemmas
 pub mod RenamingLaws

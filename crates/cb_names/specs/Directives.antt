@@ -4,14 +4,12 @@
 use Rattle.std.specs.Prelude.{ℕ, suc, ◌-◌, ◌&&◌, ◌==◌, Bool, nat_le, nat_lt, List, []}
 use Rattle.std.specs.Prelude.{◌∷◌, codes, length, if◌then◌else◌, Option, None, Some}
 use Rattle.std.specs.List.{list_any}
-use Rattle.std.specs.Str.{bytes_eq}
 use Rattle.cb_scan.specs.Bytes.{hash, open_paren}
 use Rattle.cb_scan.specs.declared.lex.piece.Piece.{Piece}
-use Rattle.cb_scan.specs.lex.Tokens.{bytes_of}
 use Rattle.cb_scan.specs.rules.Code.{is_newline}
 use Rattle.cb_scan.specs.steps.Cut.{pieces}
-use Rattle.cb_names.specs.Labels.{index_at, span}
-use Rattle.cb_names.specs.Pairs.{at, is_at}
+use Rattle.cb_names.specs.Labels.{index_at, is_spelled}
+use Rattle.cb_names.specs.Pairs.{is_at}
 use Rattle.cb_names.specs.Parameters.{line_items}
 use Rattle.cb_names.specs.Spaces.{follows_accessor}
 use Rattle.cb_names.specs.declared.space.Space.{Space}
@@ -35,10 +33,6 @@ abbrev pub line_start : (text : List ℕ) → (place : ℕ) → ℕ
 line_start text place = line_begin 0 place (pieces text)
 
 -- ---- in the tokens of a line
-
--- the token at index k is spelled so
-abbrev pub is_spelled : (text : List ℕ) → List Item → ℕ → List ℕ → Bool
-is_spelled text xs k word = bytes_eq (bytes_of text (span (at xs k))) word
 
 -- the own word of a directive that names macros alone
 abbrev pub names_macros : (text : List ℕ) → List Item → Bool

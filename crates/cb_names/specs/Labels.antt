@@ -43,6 +43,10 @@ follows_goto xs (suc k) = is_goto (at xs k).word
 abbrev pub names_label : List Item → ℕ → ℕ → Bool
 names_label xs b k = is_name_at xs k && (follows_goto xs k || is_label xs b k)
 
+-- index k has these bytes
+abbrev pub is_spelled : (text : List ℕ) → List Item → ℕ → (name : List ℕ) → Bool
+is_spelled text xs k name = bytes_eq (bytes_of text (span (at xs k))) name
+
 -- two tokens have the same bytes
 abbrev pub is_same : List ℕ → List Item → ℕ → ℕ → Bool
 is_same text xs j k = bytes_eq (bytes_of text (span (at xs j))) (bytes_of text (span (at xs k)))

@@ -11,6 +11,7 @@ pub mod Labels
 pub mod Locals
 pub mod Macros
 pub mod Meanings
+pub mod OwnNames
 pub mod Pairs
 pub mod Parameters
 pub mod Renaming
@@ -18,6 +19,7 @@ pub mod Scoped
 pub mod Scopes
 pub mod Shapes
 pub mod SpaceAt
+pub mod SpacedNames
 pub mod Spaces
 pub mod Statements
 pub mod Tables

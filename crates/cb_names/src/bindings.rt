@@ -9,21 +9,24 @@ ghost use Rattle.cb_names.specs.Functions.{IsItemOf};
 ghost use Rattle.cb_names.specs.Locals.{uses_where};
 ghost use Rattle.cb_names.specs.Scoped.{own_list};
 ghost use Rattle.cb_names.specs.steps.Binding.{larger, named_by, scope_by};
-ghost use Rattle.cb_names.specs.steps.Namings.{declares_of, named_of};
+ghost use Rattle.cb_names.specs.steps.Namings.{declares_of, is_label_of, named_of, own_by};
+ghost use Rattle.cb_names.specs.OwnNames.{own_in};
 ghost use Rattle.std.specs.Prelude.{if◌then◌else◌, length};
 ghost use Rattle.cb_names.specs.Bindings.{variable_at};
 ghost use Rattle.std.specs.Prelude.{nat_le, ◌&&◌};
 ghost use Rattle.cb_names.specs.Bindings.{is_bound_in};
-ghost use Rattle.std.specs.Prelude.{nat_lt, suc};
+ghost use Rattle.std.specs.Prelude.{◌++◌, ◌||◌, nat_lt, suc};
 ghost use Rattle.std.specs.Prelude.{not};
 
 use crate::accesses::access;
 use crate::declared::Told;
-use crate::labels::{bytes_at, span_at};
+use crate::labels::{begins, bytes_at, is_spelled, names_label, span_at};
 use crate::local::{Local, LocalUse, push_if};
+use crate::names::push_span_if;
 use crate::scopes::{Scope, flag, scopes_of};
 use crate::shape::Shape;
 use crate::spaces::is_ordinary;
+use cb_scan::Span;
 use std::alloc::{AllocError, Global};
 
 /// What is known of the names of a function that have these bytes.
@@ -215,6 +218,46 @@ impl Named<'_> {
         Ok(uses)
     }
 
+    /// Whether a token names a label, or what is declared in the function, by how far declarations are
+    /// seen.
+    fn is_own(&self, index: u32, far: usize) -> bool
+        requires named { IsNamed self.now }
+        requires within { index < length self.now.shape.now.items.items }
+        ensures { result ≡ (is_label_of self.now index
+            || (named_of self.now index && nat_lt index far)) }
+    {
+        self.is_label(index) || (self.is_named(index) && (index as usize) < far)
+    }
+
+    /// Whether a token with the bytes names a label.
+    fn is_label(&self, index: u32) -> bool
+        requires named { IsNamed self.now }
+        requires within { index < length self.now.shape.now.items.items }
+        ensures { result ≡ is_label_of self.now index }
+    {
+        let items = self.shape.items.as_slice();
+        names_label(items, begins(self.starts, index), index)
+            && is_spelled(self.text, items, index, self.name)
+    }
+
+    /// Appends all tokens with the bytes that name a label, or what is declared in the function.
+    fn push_own(&self, found: &mut Vec<Span>) -> Result<(), AllocError>
+        requires { IsNamed self.now }
+        ensures { IfOk result (λ _. found.new.items ≡ found.old.items
+            ++ own_by self.now (length self.now.shape.now.items.items)) }
+    {
+        let mut far = 0;
+        for at in 0..self.shape.items.len() as u32 {
+            far = self.farther(0, at, far);
+            push_span_if(
+                self.is_own(at, far),
+                span_at(self.shape.items.as_slice(), at),
+                found,
+            )?;
+        }
+        Ok(())
+    }
+
     /// The local that a token names, if it names one.
     fn local(&self, alloc: Global, index: u32) -> Result<Option<Local>, AllocError>
         requires named { IsNamed self.now }
@@ -266,4 +309,33 @@ pub(crate) fn variable_at(
         Ok(found) => Ok(found),
         Err(error) => Err(error),
     }
+}
+
+/// Appends all tokens of a function with these bytes that name a label, or what is declared in it.
+pub(crate) fn push_own(
+    alloc: Global,
+    text: &[u8],
+    told: Told<'_>,
+    name: &[u8],
+    found: &mut Vec<Span>,
+) -> Result<(), AllocError>
+    requires told { IsTold told }
+    requires within { AllByRecursion (IsItemOf text.now) told.shape.now.items.items }
+    ensures { (m : ℕ) → told.entry.own ≡ own_list told.entry.shape.now.items.items m
+        → IfOk result (λ _. found.new.items ≡ found.old.items
+        ++ own_in text.now told.entry.shape.now.items.items m told.entry.shape.now.body
+        name.now) }
+{
+    let declared = told.declared(alloc)?;
+    let scopes = scopes_of(alloc, told.shape, declared.lists.as_slice())?;
+    let named = Named {
+        text,
+        shape: told.shape,
+        starts: told.starts,
+        declares: declared.names.as_slice(),
+        scopes: scopes.as_slice(),
+        name,
+    };
+    named.push_own(found)?;
+    Ok(())
 }

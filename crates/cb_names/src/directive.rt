@@ -1,12 +1,12 @@
 //! The name space of the name at a place of a directive.
 ghost use Rattle.std.specs.Prelude.{◌≡◌, ◌<◌, ◌^◌, IfErr, IfOk, length};
 ghost use Rattle.std.specs.List.{AllByRecursion};
-ghost use Rattle.cb_names.specs.Directives.{directive_space, ends_line, is_define, is_spelled};
+ghost use Rattle.cb_names.specs.Directives.{directive_space, ends_line};
 ghost use Rattle.cb_names.specs.Directives.{line_start, names_macros, space_in_line};
 ghost use Rattle.cb_names.specs.Directives.{space_named, space_of_macro, space_of_text};
 ghost use Rattle.cb_names.specs.Functions.{IsItemOf};
 
-use crate::labels::{bytes_at, index_at};
+use crate::labels::{index_at, is_spelled};
 use crate::pairs::sign;
 use crate::parameter::line_items;
 use crate::space::Space;
@@ -36,15 +36,6 @@ fn line_start(source: &Source, place: u32) -> u32
     start
 }
 
-/// Whether a token is spelled like a word.
-fn is_spelled(text: &[u8], items: &[Item], index: u32, word: &[u8]) -> bool
-    requires within { AllByRecursion (IsItemOf text.now) items.now }
-    requires index { index < length items.now }
-    ensures { result ≡ is_spelled text.now items.now index word.now }
-{
-    bytes_at(text, items, index) == word
-}
-
 /// Whether a directive names macros alone.
 fn names_macros(text: &[u8], items: &[Item]) -> bool
     requires within { AllByRecursion (IsItemOf text.now) items.now }
@@ -61,9 +52,9 @@ fn names_macros(text: &[u8], items: &[Item]) -> bool
 }
 
 /// The space of a name in the text of a macro, which is no member.
-fn space_of_text(text: &[u8], items: &[Item], index: u32) -> Space
+pub(crate) fn space_of_text(text: &[u8], items: &[Item], index: u32) -> Space
     requires within { AllByRecursion (IsItemOf text.now) items.now }
-    requires behind { 1 < index }
+    requires behind { 0 < index }
     requires index { index < length items.now }
     requires few { length items.now < 2 ^ 32 }
     ensures { result ≡ space_of_text text.now items.now index }

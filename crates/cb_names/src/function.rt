@@ -1,6 +1,6 @@
 //! The function around a place.
-ghost use Rattle.std.specs.Prelude.{◌≡◌, ◌<◌, ◌≤◌, ◌^◌, IfOk, None, Some, find};
-ghost use Rattle.std.specs.Prelude.{length, map, nat_le};
+ghost use Rattle.std.specs.Prelude.{◌≡◌, ◌<◌, ◌≤◌, ◌^◌, IfOk, None, Some, drop, find};
+ghost use Rattle.std.specs.Prelude.{length, map, nat_le, take};
 ghost use Rattle.std.specs.List.{AllByRecursion};
 ghost use Rattle.cb_scan.specs.CodeTokens.{IsTokenOf};
 ghost use Rattle.cb_scan.specs.declared.rules.scope.Range.{Range};
@@ -85,15 +85,29 @@ pub(crate) fn body_of(items: &[Item], range: Range) -> usize
         .count()
 }
 
-/// The tokens of a function: from the first of its head to the end of its body.
+/// The tokens of a function: from the first of its head to the end of its body. So many begin before
+/// its name, and so many before its end.
+pub(crate) fn extent_between(items: &[Item], name: u32, end: usize) -> &[Item]
+    requires { end ≤ length items.now }
+    ensures value { result.now ≡ drop (head_before items.now name) (take end items.now) }
+    ensures few { length result.now ≤ length items.now }
+{
+    let head = head_before(items, name) as usize;
+    let until = &items[..end];
+    &until[until.len().min(head)..]
+}
+
+/// The same by its range.
 pub(crate) fn extent(items: &[Item], range: Range) -> &[Item]
     requires { length items.now < 2 ^ 32 }
     ensures value { result.now ≡ extent items.now range }
     ensures few { length result.now ≤ length items.now }
 {
-    let head = head_before(items, before(range.name.start, items) as u32) as usize;
-    let until = &items[..before(range.end, items)];
-    &until[until.len().min(head)..]
+    extent_between(
+        items,
+        before(range.name.start, items) as u32,
+        before(range.end, items),
+    )
 }
 
 /// The same without the attributes that are left out everywhere.

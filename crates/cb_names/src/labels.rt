@@ -5,8 +5,8 @@ ghost use Rattle.std.specs.List.{AllByRecursion, prefix_len, range_with_len};
 ghost use Rattle.std.specs.Str.{bytes_eq};
 ghost use Rattle.cb_scan.specs.lex.Tokens.{bytes_of};
 ghost use Rattle.cb_names.specs.Functions.{IsItemOf};
-ghost use Rattle.cb_names.specs.Labels.{follows_goto, index_at, is_goto, is_same, is_touched};
-ghost use Rattle.cb_names.specs.Labels.{label_named, label_use, names_label, span};
+ghost use Rattle.cb_names.specs.Labels.{follows_goto, index_at, is_goto, is_same, is_spelled};
+ghost use Rattle.cb_names.specs.Labels.{is_touched, label_named, label_use, names_label, span};
 ghost use Rattle.cb_names.specs.Pairs.{at};
 ghost use Rattle.cb_names.specs.Shapes.{IsShape};
 ghost use Rattle.cb_names.specs.Statements.{is_label, is_lone_colon, starts};
@@ -81,6 +81,15 @@ pub(crate) fn bytes_at<'a>(text: &'a [u8], items: &[Item], index: u32) -> &'a [u
 {
     let span = span_at(items, index);
     &text[span.start as usize..span.end as usize]
+}
+
+/// Whether a token has these bytes.
+pub(crate) fn is_spelled(text: &[u8], items: &[Item], index: u32, name: &[u8]) -> bool
+    requires within { AllByRecursion (IsItemOf text.now) items.now }
+    requires index { index < length items.now }
+    ensures { result ≡ is_spelled text.now items.now index name.now }
+{
+    bytes_at(text, items, index) == name
 }
 
 /// Whether two tokens have the same bytes.

@@ -32,7 +32,9 @@ mod labels;
 pub mod laws;
 mod local;
 mod meaning;
+mod own;
 mod space;
+mod spaced;
 mod spaces;
 
 // What macros make of names, and the names of a function that may be macros.
@@ -48,3 +50,4 @@ pub use macros::{Macro, MacroName, macro_at, takes_member};
 pub use names::{Arguments, FunctionNames};
 pub use parameter::{Parameter, parameter_at};
 pub use space::Space;
+pub use spaced::{SpacedName, macro_names};

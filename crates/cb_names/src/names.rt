@@ -286,7 +286,7 @@ fn is_unsure(shape: &Shape, enums: &[bool], at: u32) -> bool
 }
 
 /// Appends a span, if it is wanted.
-fn push_span_if(is_wanted: bool, one: Span, found: &mut Vec<Span>) -> Result<(), AllocError>
+pub(crate) fn push_span_if(is_wanted: bool, one: Span, found: &mut Vec<Span>) -> Result<(), AllocError>
     ensures { IfOk result
         (λ _. found.new.items ≡ found.old.items ++ (if is_wanted then one ∷ [] else [])) }
 {

@@ -129,7 +129,7 @@ pub(crate) fn line_items(alloc: Global, source: &Source, from: u32) -> Result<Ve
 }
 
 /// Whether a `(` directly follows the first token.
-fn takes_arguments(items: &[Item]) -> bool
+pub(crate) fn takes_arguments(items: &[Item]) -> bool
     ensures { result ≡ takes_arguments items.now }
 {
     sign(items, 1) == b'(' && touches(items, 0)
@@ -142,7 +142,7 @@ fn is_close(item: &Item) -> bool
 }
 
 /// How many tokens there are before the first `)`.
-fn list_end(items: &[Item]) -> usize
+pub(crate) fn list_end(items: &[Item]) -> usize
     ensures { result ≡ list_end items.now }
 {
     items.iter().take_while(|item| !is_close(*item)).count()

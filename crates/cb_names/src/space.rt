@@ -63,7 +63,7 @@ fn tag_space_at(items: &[Item], index: u32) -> Space
 }
 
 /// The space of a name.
-fn space_of(items: &[Item], index: u32) -> Space
+pub(crate) fn space_of(items: &[Item], index: u32) -> Space
     requires few { length items.now < 2 ^ 32 }
     requires within { index < length items.now }
     ensures { result ≡ space_of items.now index }
