@@ -23,7 +23,7 @@ use Rattle.cb_lsp.specs.Documents.{Document, Looked, Oracle, later}
 use Rattle.cb_lsp.specs.Messages.{Serving, asked_reply, reply_unless, result_unless}
 use Rattle.cb_lsp.specs.Questions.{Asked, folds, in_file, incoming, outgoing, rename}
 use Rattle.cb_lsp.specs.Questions.{workspace_symbols}
-use Rattle.cb_lsp.specs.LocalRenames.{renamed_at, renamed_there}
+use Rattle.cb_lsp.specs.NameRenames.{renamed_at, renamed_there}
 use Rattle.cb_lsp.specs.Parameters.{parameter_there}
 use Rattle.cb_lsp.specs.Renames.{Answered, no_definition}
 use Rattle.cb_lsp.specs.Renames.{without_reading}

@@ -32,7 +32,10 @@ use Rattle.cb_lsp.specs.Exact.{Edit, IsRenamed, Makes, RenamesAreExact, last_fir
 use Rattle.cb_lsp.specs.Meaning.{reaches}
 use Rattle.cb_lsp.specs.Places.{range_of}
 use Rattle.cb_lsp.specs.Ranges.{IsUseIn, span_of}
-use Rattle.cb_lsp.specs.Renames.{renamed_uses, use_edit, uses_in}
+use Rattle.cb_lsp.specs.References.{uses_reached}
+use Rattle.cb_lsp.specs.Renames.{use_edit, uses_in}
+use Rattle.cb_lsp.specs.Same.{is_same}
+use Rattle.cb_lsp.specs.WordUses.{references_in}
 use Rattle.cb_lsp.specs.Sync.{text_through}
 use Rattle.cb_lsp.proofs.NamePlaces.{HasPlaces, name-places}
 use Rattle.cb_lsp.proofs.NamedUses.{references-named}
@@ -249,18 +252,19 @@ module _ (c : Client) (files : List File) (old new file : List ℕ) where
 
 pub renames_are_exact : RenamesAreExact
 unfolding Exact
-renames_are_exact c w name text new word file up is =
+renames_are_exact c w name text new sort word file up is =
     let key : List ℕ = bytes_of text word in
     let ts = tags_named w.profile key w.files in
-    let all = renamed_uses w name text word in
+    let all = references_in w name text sort word true in
     let us = take MOST_ELEMENTS all in
     let named : AllByRecursion (IsUseIn w.files key) us =
     all-take (IsUseIn w.files key) MOST_ELEMENTS all
-    (references-named w name text word true up is) in
+    (references-named w name text sort word true up is) in
     let apart : AreOrdered AreApart us =
     ordered-take AreApart MOST_ELEMENTS all
+    (ordered-filter AreApart (is_same w sort key) (uses_reached ts name (uses_of w.profile key w.files))
     (ordered-filter AreApart (λ (u : Fact). reaches ts name u.file) (uses_of w.profile key w.files)
-    (uses-apart w.profile key w.files up)) in
+    (uses-apart w.profile key w.files up))) in
     let made = in-file c w.files key new file us named apart in (
       map (edit_at c w.files key new file) (uses_in file us),
       made.0,

@@ -62,4 +62,5 @@ pub mod ClosureHeaders
 pub mod ClosureLasts
 pub mod ClosureReach
 pub mod ClosureSearch
+pub mod SameStarts
 pub mod Truths

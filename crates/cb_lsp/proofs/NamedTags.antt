@@ -24,7 +24,7 @@ use Rattle.cb_scan.specs.declared.facts.Def.{Def}
 use Rattle.cb_scan.specs.declared.lex.piece.Span.{Span}
 use Rattle.cb_scan.specs.declared.profile.Profile.{Profile}
 use Rattle.cb_scan.specs.lex.Tokens.{bytes_of}
-use Rattle.cb_lsp.specs.Answers.{word_shown}
+use Rattle.cb_lsp.specs.WordUses.{word_shown}
 use Rattle.cb_lsp.proofs.NearestShown.{shown-all}
 use Rattle.cb_lsp.specs.Closures.{is_in_closure}
 use Rattle.cb_names.specs.declared.space.Space.{Space}

@@ -17,7 +17,9 @@ use Rattle.cb_scan.specs.declared.profile.Profile.{Profile}
 use Rattle.cb_scan.specs.lex.Reserved.{is_name}
 use Rattle.cb_scan.specs.lex.Tokens.{bytes_of}
 use Rattle.cb_tags.specs.TagLines.{Tag}
-use Rattle.cb_lsp.specs.Answers.{word_references}
+use Rattle.cb_lsp.specs.Same.{is_same}
+use Rattle.cb_lsp.specs.WordUses.{references_in}
+use Rattle.cb_lsp.specs.declared.same.Sort.{Sort}
 use Rattle.cb_lsp.specs.Meaning.{reaches}
 use Rattle.cb_lsp.specs.Ranges.{IsUseIn, StandsIn}
 use Rattle.cb_lsp.specs.References.{is_declaration, references, uses_reached}
@@ -61,12 +63,13 @@ asked-have P ts from false us all =
     all-filter P (λ (u : Fact). not (is_declaration ts u)) (uses_reached ts from us)
     (all-filter P (λ (u : Fact). reaches ts from u.file) us all)
 
-pub references-named : (w : World) (name text : List ℕ) (word : Span) (declarations : Bool)
-    → IsAscending w.files → IsNameOf text word
+pub references-named : (w : World) (name text : List ℕ) (sort : Sort) (word : Span)
+    (declarations : Bool) → IsAscending w.files → IsNameOf text word
     → AllByRecursion (IsUseIn w.files (bytes_of text word))
-    (word_references w name text word declarations)
-references-named w name text word declarations up named =
+    (references_in w name text sort word declarations)
+references-named w name text sort word declarations up named =
     let key : List ℕ = bytes_of text word in
-    asked-have (IsUseIn w.files key) (tags_named w.profile key w.files) name declarations
+    all-filter (IsUseIn w.files key) (is_same w sort key) _
+    (asked-have (IsUseIn w.files key) (tags_named w.profile key w.files) name declarations
     (uses_of w.profile key w.files)
-    (uses-named w.files w.profile key named.1 w.files (own-texts w.files up))
+    (uses-named w.files w.profile key named.1 w.files (own-texts w.files up)))

@@ -2,19 +2,16 @@
 use Rattle.std.proofs.Common.{◌≡◌, ◌∙◌, ◌≤◌, not, sym, ap, subst, refl, ℕ, zero, suc, Bool}
 use Rattle.std.proofs.Common.{true, false, List, [], ◌∷◌, length, map, take, arith}
 use Rattle.std.proofs.lemmas.List.{take_all}
-use Rattle.std.specs.Prelude.{◌-◌, codes, Some, Err}
+use Rattle.std.specs.Prelude.{◌-◌, codes}
 use Rattle.std.specs.List.{AllByRecursion}
 use Rattle.std.specs.Str.{bytes_eq}
 use Rattle.json.specs.Json.{Json, null, string, object, no_members, member}
-use Rattle.cb_desk.specs.World.{File}
+use Rattle.cb_desk.specs.World.{File, World}
 use Rattle.cb_index.proofs.FactOrderLemmas.{by_place}
 use Rattle.cb_index.specs.FactOrder.{ComesBefore, NamesAscend}
 use Rattle.cb_index.specs.Rows.{Fact, uses_of}
 use Rattle.cb_index.specs.declared.entry.FactKind.TheVariants.{Uses}
 use Rattle.cb_scan.specs.Order.{AreOrdered}
-use Rattle.cb_scan.specs.declared.lex.piece.Span.{Span}
-use Rattle.cb_scan.specs.declared.profile.Profile.{Profile}
-use Rattle.cb_scan.specs.lex.Reserved.{is_name}
 use Rattle.cb_tags.specs.TagLines.{Tag}
 use Rattle.cb_wire.specs.declared.list.TheConstants.{MOST_ELEMENTS}
 use Rattle.cb_wire.specs.declared.message.Id.{Id}
@@ -26,11 +23,11 @@ use Rattle.cb_wire.specs.Trees.{result_reply}
 use Rattle.cb_wire.specs.Values.{value_text}
 use Rattle.cb_wire.proofs.EditTexts.{edits-reply}
 use Rattle.cb_lsp.specs.Clients.{Client}
-use Rattle.cb_lsp.specs.Documents.{Oracle, Work}
 use Rattle.cb_lsp.specs.Meaning.{reaches}
-use Rattle.cb_lsp.specs.References.{uses_reached}
-use Rattle.cb_lsp.specs.Renames.{all_edits, bad_name, file_edits, files_of, is_some_use}
-use Rattle.cb_lsp.specs.Renames.{renamed_all, renamed_uses, renamed_word, without_reading, used_already}
+use Rattle.cb_lsp.specs.References.{is_declaration, references, uses_reached}
+use Rattle.cb_lsp.specs.Same.{is_same, same_uses}
+use Rattle.cb_lsp.specs.declared.same.Sort.{Sort}
+use Rattle.cb_lsp.specs.Renames.{all_edits, file_edits, files_of}
 use Rattle.cb_lsp.specs.Symbols.{place_of_use}
 use Rattle.cb_lsp.specs.steps.Located.{Locating}
 use Rattle.cb_lsp.specs.steps.References.{UsesAreByPlace}
@@ -112,11 +109,21 @@ ordered-take R zero us order = tt
 ordered-take R (suc n) [] order = tt
 ordered-take R (suc n) (u ∷ us) order = (all-take (R u) n us order.0, ordered-take R n us order.1)
 
-pub reached-by-place : (p : Profile) (ts : List Tag) (from name : List ℕ) (files : List File)
-    → NamesAscend files → UsesAreByPlace (uses_reached ts from (uses_of p name files))
-reached-by-place p ts from name files up =
-    ordered-filter ComesBefore (λ (u : Fact). reaches ts from u.file) (uses_of p name files)
-    (by_place p Uses name files up)
+asked-by-place : (ts : List Tag) (from : List ℕ) (declarations : Bool) (us : List Fact)
+    → UsesAreByPlace us → UsesAreByPlace (references ts from declarations us)
+asked-by-place ts from true us order =
+    ordered-filter ComesBefore (λ (u : Fact). reaches ts from u.file) us order
+asked-by-place ts from false us order =
+    ordered-filter ComesBefore (λ (u : Fact). not (is_declaration ts u)) (uses_reached ts from us)
+    (ordered-filter ComesBefore (λ (u : Fact). reaches ts from u.file) us order)
+
+pub same-by-place : (w : World) (sort : Sort) (ts : List Tag) (from name : List ℕ) (declarations : Bool)
+    → NamesAscend w.files
+    → UsesAreByPlace (same_uses w sort name (references ts from declarations (uses_of w.profile name w.files)))
+same-by-place w sort ts from name declarations up =
+    ordered-filter ComesBefore (is_same w sort name) _
+    (asked-by-place ts from declarations (uses_of w.profile name w.files)
+    (by_place w.profile Uses name w.files up))
 
 -- ---- all edits
 
@@ -163,20 +170,3 @@ edits-written id c files new us l order is =
     ∙ ap (λ (k : Locating). result_body id (list_text (codes "{\"changes\":{") (codes ",")
     (codes "}}") (texts_of_uses k.client k.files new true (take MOST_ELEMENTS us)))) is
     ∙ made id c files new (take MOST_ELEMENTS us) (ordered-take ComesBefore MOST_ELEMENTS us order)
-
--- ---- why a name stays
-
-pub renamed-bad : (o : Oracle) (c : Client) (w : Work) (name text new : List ℕ) (word : Span)
-    → is_name new ≡ false → without_reading (Err bad_name) ≡ renamed_word o c w name text new (Some word)
-renamed-bad o c w name text new word bad = rw bad
-
-pub renamed-used : (o : Oracle) (c : Client) (w : Work) (name text new : List ℕ) (word : Span)
-    → is_name new ≡ true → is_some_use (uses_of w.world.profile new w.world.files) ≡ true
-    → without_reading (Err used_already) ≡ renamed_word o c w name text new (Some word)
-renamed-used o c w name text new word good used = rw (good, used)
-
-pub renamed-all : (o : Oracle) (c : Client) (w : Work) (name text new : List ℕ) (word : Span)
-    → is_name new ≡ true → is_some_use (uses_of w.world.profile new w.world.files) ≡ false
-    → renamed_all o c w new (renamed_uses w.world name text word)
-    ≡ renamed_word o c w name text new (Some word)
-renamed-all o c w name text new word good free = rw (good, free)

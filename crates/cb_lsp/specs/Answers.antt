@@ -1,27 +1,21 @@
 -- The answers to questions, as values of JSON.
-use Rattle.std.specs.Prelude.{ℕ, Bool, false, true, ◌&&◌, ◌==◌, List, [], ◌∷◌, map, Option, None}
+use Rattle.std.specs.Prelude.{ℕ, Bool, false, true, List, [], ◌∷◌, map, Option, None}
 use Rattle.std.specs.Prelude.{Some, take, option_map}
 use Rattle.std.specs.Prelude.{Result, Ok, Err}
 use Rattle.std.specs.Prelude.{if◌then◌else◌}
-use Rattle.std.specs.List.{list_any}
-use Rattle.std.specs.Option.{option_or}
 use Rattle.json.specs.Json.{Json, array, null}
 use Rattle.cb_desk.specs.World.{World, has_file, text_of_file}
-use Rattle.cb_index.specs.Rows.{Fact, tags_named, uses_of}
 use Rattle.cb_names.specs.Meanings.{local_at}
-use Rattle.cb_names.specs.Directives.{directive_space}
-use Rattle.cb_names.specs.SpaceAt.{space_at}
 use Rattle.cb_names.specs.declared.space.Space.{Space}
-use Rattle.cb_names.specs.declared.space.Space.TheVariants as name_space
 use Rattle.cb_names.specs.Locals.{LocalName}
 use Rattle.cb_names.specs.Parameters.{ParameterName}
 use Rattle.cb_names.specs.declared.local.LocalUse.{LocalUse}
 use Rattle.cb_scan.specs.declared.facts.Def.{Def}
 use Rattle.cb_scan.specs.declared.facts.Include.{Include}
-use Rattle.cb_scan.specs.declared.facts.Use.{Use}
 use Rattle.cb_scan.specs.declared.lex.piece.Span.{Span}
 use Rattle.cb_scan.specs.lex.Tokens.{bytes_of}
 use Rattle.cb_scan.specs.Profiles.{facts_in}
+use Rattle.cb_scan.specs.TextFacts.{TextFacts}
 use Rattle.cb_tags.specs.TagLines.{Tag}
 use Rattle.cb_wire.specs.declared.position.Position.{Position}
 use Rattle.cb_wire.specs.declared.units.Encoding.{Encoding}
@@ -33,16 +27,13 @@ use Rattle.cb_wire.specs.Values.{items_of}
 use Rattle.cb_wire.specs.declared.list.TheConstants.{MOST_ELEMENTS}
 use Rattle.cb_lsp.specs.Calls.{callables, incoming_calls, item_of}
 use Rattle.cb_lsp.specs.Clients.{Client}
-use Rattle.cb_lsp.specs.Closures.{is_in_closure}
 use Rattle.cb_lsp.specs.Completions.{completions_before, word_before}
 use Rattle.cb_lsp.specs.Documents.{Looked, Oracle, Work}
 use Rattle.cb_lsp.specs.Folds.{folds_in}
 use Rattle.cb_lsp.specs.Headers.{header_at, header_files}
-use Rattle.cb_lsp.specs.Highlights as marked
 use Rattle.cb_lsp.specs.Highlights.{highlight}
 use Rattle.cb_lsp.specs.Hovers.{hover_at_place, hover_of, hover_texts}
 use Rattle.cb_lsp.specs.Locals.{definition_places, local_mark, token_place, uses_wanted}
-use Rattle.cb_lsp.specs.Nearest.{is_member, kinds_at, shown}
 use Rattle.cb_lsp.specs.Parameters.{parameter_there}
 use Rattle.cb_lsp.specs.Places.{range_of}
 use Rattle.cb_lsp.specs.Outgoing.{outgoing_calls}
@@ -54,13 +45,14 @@ use Rattle.cb_lsp.specs.declared.question.PlaceQuestion.{PlaceQuestion}
 use Rattle.cb_lsp.specs.declared.question.PlaceQuestion.TheVariants.{Definition, Hover, Highlights}
 use Rattle.cb_lsp.specs.declared.question.PlaceQuestion.TheVariants.{References, PrepareRename}
 use Rattle.cb_lsp.specs.declared.question.PlaceQuestion.TheVariants.{Callables, Declaration}
-use Rattle.cb_lsp.specs.References.{references}
-use Rattle.cb_lsp.specs.LocalRenames.{renamed_at}
+use Rattle.cb_lsp.specs.NameRenames.{renamed_at}
 use Rattle.cb_lsp.specs.Renames.{Answered, Unrenamed, if_renamable, prepared}
 use Rattle.cb_lsp.specs.Renames.{unrenamed_text, without_reading}
 use Rattle.cb_lsp.specs.Searches.{found_by}
 use Rattle.cb_lsp.specs.Symbols.{file_place, file_symbol, place_of, place_of_use}
 use Rattle.cb_lsp.specs.Symbols.{session_symbol}
+use Rattle.cb_lsp.specs.WordSpaces.{space_there}
+use Rattle.cb_lsp.specs.WordUses.{word_marks, word_references, word_shown}
 use Rattle.cb_lsp.specs.Words.{word_at}
 
 -- a list: the first 2^48 elements, which no memory holds
@@ -74,13 +66,7 @@ some_of (j ∷ js) = list_of (j ∷ js)
 
 -- ---- of a word of a file
 
--- the definitions that are shown of a word, where its name has this space: declarations first, or not
-abbrev pub word_shown : World → (name text : List ℕ) → Option Space → (declarations : Bool) → Span
-    → List Tag
-word_shown w name text space declarations word =
-    let ts = tags_named w.profile (bytes_of text word) w.files in
-    shown name (is_in_closure w name) (kinds_at space ts) declarations ts
-
+-- where its definitions are
 abbrev pub places_of_word : Client → World → (name text : List ℕ) → Option Space
     → (declarations : Bool) → Option Span → Json
 places_of_word c w name text space declarations None = list_of []
@@ -98,24 +84,19 @@ hover_at c w name text space None = null
 hover_at c w name text space (Some word) =
     hover_over c text word (word_shown w name text space false word)
 
--- the uses of a word, as ranges that are marked
-abbrev pub highlights_of : Encoding → (text : List ℕ) → (uses : List Use) → Option Span → Json
-highlights_of e text uses None = list_of []
-highlights_of e text uses (Some word) =
-    list_of (map (highlight e text) (marked.uses_of text (bytes_of text word) uses))
-
--- the uses of a word of a file in all files of its reach
-abbrev pub word_references : World → (name text : List ℕ) → Span → (declarations : Bool) → List Fact
-word_references w name text word declarations =
-    references (tags_named w.profile (bytes_of text word) w.files) name declarations
-    (uses_of w.profile (bytes_of text word) w.files)
-
--- where they are
-abbrev pub references_of_word : Client → World → (name text : List ℕ) → (declarations : Bool)
+-- the uses of a word in its file, with these facts, as ranges that are marked
+abbrev pub highlights_of : Encoding → World → (name text : List ℕ) → TextFacts → Option Space
     → Option Span → Json
-references_of_word c w name text declarations None = list_of []
-references_of_word c w name text declarations (Some word) =
-    list_of (map (place_of_use c w.files) (word_references w name text word declarations))
+highlights_of e w name text facts space None = list_of []
+highlights_of e w name text facts space (Some word) =
+    list_of (map (highlight e text) (word_marks w name text facts space word))
+
+-- where the uses of a word are, in all files of its reach
+abbrev pub references_of_word : Client → World → (name text : List ℕ) → Option Space
+    → (declarations : Bool) → Option Span → Json
+references_of_word c w name text space declarations None = list_of []
+references_of_word c w name text space declarations (Some word) =
+    list_of (map (place_of_use c w.files) (word_references w name text space word declarations))
 
 -- the functions and macros that are shown of a word
 abbrev pub callables_at : Client → World → (name text : List ℕ) → Option Space → Option Span → Json
@@ -125,29 +106,11 @@ callables_at c w name text space (Some word) =
 
 -- ---- at a place of a file
 
--- the name at a place is that of a member that is defined there
-abbrev pub is_member_at : Span → Def → Bool
-is_member_at word d =
-    is_member d.kind && d.name.start == word.start && d.name.end == word.end
-
--- the name space of the name at a place, as the code tells it or a directive
-abbrev pub space_told : (text : List ℕ) → (place : ℕ) → Option Space
-space_told text at = option_or (space_at text at) (directive_space text at)
-
--- the same where this word stands
-abbrev pub space_there : List Def → (text : List ℕ) → (place : ℕ) → Option Span → Option Space
-space_there ds text at None = space_told text at
-space_there ds text at (Some word) =
-    if list_any (is_member_at word) ds then Some name_space.Member else space_told text at
-
--- the same where a question is about definitions
+-- the name space of the word at a place, where a question asks for it
 abbrev pub space_asked : List Def → (text : List ℕ) → (place : ℕ) → Option Span → PlaceQuestion
     → Option Space
-space_asked ds text at word Definition = space_there ds text at word
-space_asked ds text at word Declaration = space_there ds text at word
-space_asked ds text at word Hover = space_there ds text at word
-space_asked ds text at word Callables = space_there ds text at word
-space_asked ds text at word _ = None
+space_asked ds text at word PrepareRename = None
+space_asked ds text at word _ = space_there ds text at word
 
 -- a question about a word, where its name has this space
 abbrev pub word_answer : Client → World → (name text : List ℕ) → Option Space → Option Span
@@ -158,9 +121,9 @@ word_answer c w name text space word Declaration =
     places_of_word c w name text space true word
 word_answer c w name text space word Hover = hover_at c w name text space word
 word_answer c w name text space word Highlights =
-    highlights_of c.encoding text (facts_in w.profile text).uses word
+    highlights_of c.encoding w name text (facts_in w.profile text) space word
 word_answer c w name text space word (References declarations) =
-    references_of_word c w name text declarations word
+    references_of_word c w name text space declarations word
 word_answer c w name text space word PrepareRename = prepared c text (if_renamable w text word)
 word_answer c w name text space word Callables = callables_at c w name text space word
 

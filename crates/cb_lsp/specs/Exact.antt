@@ -1,6 +1,6 @@
 -- What a client makes of a text with edits, and a text in which a name is changed.
 use Rattle.std.specs.Prelude.{◌≡◌, ◌≤◌, ◌+◌, ℕ, List, [], ◌∷◌, ◌++◌, length, drop, map, take}
-use Rattle.std.specs.Prelude.{Some, reverse}
+use Rattle.std.specs.Prelude.{Some, reverse, true}
 use Rattle.bstr.specs.Text.{part}
 use Rattle.cb_desk.specs.World.{File, IsAscending, World, text_of_file}
 use Rattle.cb_index.specs.Rows.{Fact}
@@ -15,8 +15,10 @@ use Rattle.cb_wire.specs.Positions.{place}
 use Rattle.cb_lsp.specs.Changes as change
 use Rattle.cb_lsp.specs.Changes.{TextChange}
 use Rattle.cb_lsp.specs.Clients.{Client}
-use Rattle.cb_lsp.specs.Renames.{file_edits, renamed_uses, uses_in}
+use Rattle.cb_lsp.specs.Renames.{file_edits, uses_in}
 use Rattle.cb_lsp.specs.Sync.{text_through}
+use Rattle.cb_lsp.specs.WordUses.{references_in}
+use Rattle.cb_lsp.specs.declared.same.Sort.{Sort}
 
 -- an edit: a text for a range
 pub record Edit : Type 0 where
@@ -68,7 +70,7 @@ IsExactIn c files old new us file =
 
 -- each file has such edits, of the uses that are told
 abbrev pub RenamesAreExact : Type 0
-RenamesAreExact = (c : Client) (w : World) (name text new : List ℕ) (word : Span)
+RenamesAreExact = (c : Client) (w : World) (name text new : List ℕ) (sort : Sort) (word : Span)
     (file : List ℕ) → IsAscending w.files → IsNameOf text word
     → IsExactIn c w.files (bytes_of text word) new
-    (take MOST_ELEMENTS (renamed_uses w name text word)) file
+    (take MOST_ELEMENTS (references_in w name text sort word true)) file

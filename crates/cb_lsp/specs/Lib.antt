@@ -27,6 +27,7 @@ pub mod Meaning
 pub mod MeaningExamples
 pub mod Messages
 pub mod Models
+pub mod NameRenames
 pub mod Names
 pub mod Nearest
 pub mod NearestExamples
@@ -42,8 +43,11 @@ pub mod Refresh
 pub mod Renames
 pub mod RequestExamples
 pub mod Runs
+pub mod Same
 pub mod Searches
 pub mod steps
 pub mod Symbols
 pub mod Sync
+pub mod WordSpaces
+pub mod WordUses
 pub mod Words

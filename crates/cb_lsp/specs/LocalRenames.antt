@@ -1,5 +1,5 @@
 -- How a name that means something in its function alone is renamed, or a parameter of a macro, or why
--- it is not; and what is renamed at a position.
+-- it is not.
 use Rattle.std.specs.Prelude.{ℕ, ◌+◌, ◌-◌, Bool, true, false, ◌&&◌, ◌||◌, ◌==◌, nat_eq, nat_le, nat_lt}
 use Rattle.std.specs.Prelude.{not, List, [], ◌∷◌, codes, count_by, filter, find, map, slice_index_or, take}
 use Rattle.std.specs.Prelude.{Option, None, Some, Err, if◌then◌else◌}
@@ -7,14 +7,13 @@ use Rattle.std.specs.List.{list_any, starts_with}
 use Rattle.std.specs.Option.{option_map, option_map_or, option_or}
 use Rattle.std.specs.Str.{bytes_eq}
 use Rattle.json.specs.Json.{Json}
-use Rattle.cb_desk.specs.World.{World, has_file, text_of_file}
+use Rattle.cb_desk.specs.World.{World}
 use Rattle.cb_index.specs.Rows.{tags_named}
 use Rattle.cb_macros.specs.Meeting.{calls_argument, first_through, has_either, has_parameters}
 use Rattle.cb_macros.specs.Meeting.{makes_other}
-use Rattle.cb_names.specs.FunctionNames.{FunctionNames, function_names}
+use Rattle.cb_names.specs.FunctionNames.{FunctionNames}
 use Rattle.cb_names.specs.Locals.{LocalName}
 use Rattle.cb_names.specs.Macros.{takes_member}
-use Rattle.cb_names.specs.Meanings.{local_at}
 use Rattle.cb_names.specs.Parameters.{ParameterName}
 use Rattle.cb_names.specs.declared.local.LocalUse.{LocalUse}
 use Rattle.cb_names.specs.declared.names.Arguments.{Arguments}
@@ -30,20 +29,16 @@ use Rattle.cb_scan.specs.lex.Reserved.{is_name}
 use Rattle.cb_scan.specs.lex.Tokens.{bytes_of}
 use Rattle.cb_tags.specs.TagLines.{Tag}
 use Rattle.cb_wire.specs.declared.list.TheConstants.{MOST_ELEMENTS}
-use Rattle.cb_wire.specs.declared.position.Position.{Position}
 use Rattle.cb_wire.specs.Edits.{FileEdits, edit_of, edits_of}
-use Rattle.cb_wire.specs.Positions.{place}
 use Rattle.cb_wire.specs.Uris.{uri_of}
 use Rattle.cb_lsp.specs.Alike.{is_counted_alike}
 use Rattle.cb_lsp.specs.Clients.{Client}
 use Rattle.cb_lsp.specs.Documents.{Oracle, Work, is_open}
-use Rattle.cb_lsp.specs.Parameters.{parameter_there}
 use Rattle.cb_lsp.specs.Places.{range_of}
 use Rattle.cb_lsp.specs.Renames.{Answered, Check, Unrenamed, bad_name, check, from_outside}
-use Rattle.cb_lsp.specs.Renames.{if_renamable, in_arguments, in_macro, macro_or_type, no_definition}
-use Rattle.cb_lsp.specs.Renames.{not_text, odd_bytes, ok_unless, renamed_word, used_already}
+use Rattle.cb_lsp.specs.Renames.{in_arguments, in_macro, macro_or_type, no_definition}
+use Rattle.cb_lsp.specs.Renames.{not_text, odd_bytes, ok_unless, used_already}
 use Rattle.cb_lsp.specs.Renames.{without_reading}
-use Rattle.cb_lsp.specs.Words.{word_at}
 
 -- a reason, if there is cause for it
 abbrev pub some_if : Bool → Unrenamed → Option Unrenamed
@@ -269,31 +264,3 @@ renamed_parameter o c w name text new p (Some s) =
     edited_unless o c w name text new p.name.uses (unless_parameter w.world name text
     (facts_in w.world.profile text).uses (bytes_of text s) new p)
 renamed_parameter o c w name text new p None = without_reading (Err no_definition)
-
--- what stands at a place of the file of this name and text, and is no parameter of a macro
-abbrev pub renamed_name : Oracle → Client → Work → (name text new : List ℕ) → (at : ℕ)
-    → Option LocalName → Answered
-renamed_name o c w name text new at None =
-    renamed_word o c w name text new (if_renamable w.world text (word_at text at))
-renamed_name o c w name text new at (Some own) =
-    renamed_local o c w name text new own own.definition (function_names text at)
-
--- what stands there, or a parameter
-abbrev pub renamed_there : Oracle → Client → Work → (name text new : List ℕ) → (at : ℕ)
-    → Option ParameterName → Answered
-renamed_there o c w name text new at (Some p) =
-    renamed_parameter o c w name text new p p.name.definition
-renamed_there o c w name text new at None =
-    renamed_name o c w name text new at (local_at text at)
-
--- the same at a position of a file of this name, if there is such a file
-abbrev pub renamed_at : Oracle → Client → Work → Position → (new : List ℕ) → Option (List ℕ)
-    → Answered
-renamed_at o c w p new None = without_reading (Err no_definition)
-renamed_at o c w p new (Some name) =
-    let text = text_of_file w.world.files name in
-    let at = place c.encoding text p in
-    if has_file w.world.files name
-    then renamed_there o c w name text new at
-    (parameter_there (facts_in w.world.profile text).defs text at)
-    else without_reading (Err no_definition)

@@ -7,10 +7,9 @@ use Rattle.std.specs.List.{list_all, list_any}
 use Rattle.std.specs.Str.{bytes_eq}
 use Rattle.json.specs.Json.{Json, null}
 use Rattle.cb_desk.specs.World.{File, World, text_of_file}
-use Rattle.cb_index.specs.Rows.{Fact, tags_named, uses_of}
+use Rattle.cb_index.specs.Rows.{Fact, tags_named}
 use Rattle.cb_scan.specs.declared.facts.Use.{Use}
 use Rattle.cb_scan.specs.declared.lex.piece.Span.{Span}
-use Rattle.cb_scan.specs.lex.Reserved.{is_name}
 use Rattle.cb_scan.specs.lex.Tokens.{bytes_of}
 use Rattle.cb_scan.specs.Profiles.{facts_in}
 use Rattle.cb_tags.specs.TagLines.{Tag}
@@ -25,7 +24,6 @@ use Rattle.cb_lsp.specs.Documents.{linked, looked_by, no_room, was_lost}
 use Rattle.cb_lsp.specs.Alike.{is_counted_alike}
 use Rattle.cb_lsp.specs.Names.{is_outside}
 use Rattle.cb_lsp.specs.Places.{range_of}
-use Rattle.cb_lsp.specs.References.{uses_reached}
 
 -- ---- the word
 
@@ -76,6 +74,8 @@ pub data Unrenamed : Type 0 where
   -- a byte beside a use may be one of a name, or the file is not counted alike by all editors
   odd_bytes : (file : List ℕ) → (line : ℕ) → Unrenamed
   not_text : (file : List ℕ) → Unrenamed
+  -- the member there may be that of several types
+  unknown_type : (file : List ℕ) → (line : ℕ) → Unrenamed
 
 abbrev pub unrenamed_text : Unrenamed → List ℕ
 unrenamed_text no_definition = codes "no such definition"
@@ -90,14 +90,8 @@ unrenamed_text (in_arguments name) = codes "in the arguments of a macro: " ++ na
 unrenamed_text (from_outside header) = codes "used from outside: " ++ header
 unrenamed_text (odd_bytes file line) = codes "odd bytes: " ++ (file ++ (codes ":" ++ decimal line))
 unrenamed_text (not_text file) = codes "not text: " ++ file
-
--- ---- the uses that are renamed
-
--- those of a word of a file in its reach
-abbrev pub renamed_uses : World → (name text : List ℕ) → Span → List Fact
-renamed_uses w name text word =
-    uses_reached (tags_named w.profile (bytes_of text word) w.files) name
-    (uses_of w.profile (bytes_of text word) w.files)
+unrenamed_text (unknown_type file line) =
+    codes "type is not known: " ++ (file ++ (codes ":" ++ decimal line))
 
 -- ---- their edits
 
@@ -223,12 +217,3 @@ renamed_all o c w new us = renamed_if c w.world.files new us (checked o c w us)
 abbrev pub is_some_use : List Fact → Bool
 is_some_use [] = false
 is_some_use (u ∷ us) = true
-
--- a word of the file of this name and text is renamed
-abbrev pub renamed_word : Oracle → Client → Work → (name text new : List ℕ) → Option Span → Answered
-renamed_word o c w name text new None = without_reading (Err no_definition)
-renamed_word o c w name text new (Some word) =
-    if not (is_name new) then without_reading (Err bad_name)
-    else (if is_some_use (uses_of w.world.profile new w.world.files)
-    then without_reading (Err used_already)
-    else renamed_all o c w new (renamed_uses w.world name text word))

@@ -13,6 +13,7 @@ pub mod Noted
 pub mod Outgoing
 pub mod References
 pub mod Renames
+pub mod Same
 pub mod Told
 pub mod Turns
 pub mod Values

@@ -18,12 +18,11 @@ ghost use Rattle.cb_wire.specs.Texts.{frame};
 ghost use Rattle.cb_wire.specs.Trees.{result_reply};
 ghost use Rattle.cb_wire.specs.Values.{items_of, value_text};
 ghost use Rattle.cb_wire.specs.declared.list.TheConstants.{MOST_ELEMENTS};
-ghost use Rattle.cb_lsp.specs.Answers.{answer_in, header_asked, highlights_of};
-ghost use Rattle.cb_lsp.specs.Answers.{is_member_at, list_of, name_answer};
-ghost use Rattle.cb_lsp.specs.Answers.{named_answer, place_answer, space_asked, space_there};
-ghost use Rattle.cb_lsp.specs.Answers.{space_told};
-ghost use Rattle.cb_lsp.specs.Answers.{references_of_word, word_answer};
-ghost use Rattle.cb_lsp.specs.Answers.{word_references};
+ghost use Rattle.cb_lsp.specs.Answers.{answer_in, header_asked};
+ghost use Rattle.cb_lsp.specs.Answers.{list_of, name_answer};
+ghost use Rattle.cb_lsp.specs.Answers.{named_answer, place_answer, space_asked};
+ghost use Rattle.cb_lsp.specs.WordSpaces.{is_member_at, space_there, space_told};
+ghost use Rattle.cb_lsp.specs.Answers.{word_answer};
 ghost use Rattle.cb_lsp.specs.Completions.{completions_before, completions_of};
 ghost use Rattle.cb_lsp.specs.Headers.{folder_of, header_files};
 ghost use Rattle.cb_lsp.specs.Hovers.{hover_of, hover_shown};
@@ -35,18 +34,15 @@ ghost use Rattle.cb_lsp.specs.Symbols.{file_place, file_symbol, session_symbol};
 ghost use Rattle.cb_lsp.specs.Words.{word_at};
 ghost use Rattle.cb_lsp.specs.steps.Completions.{names_left};
 ghost use Rattle.cb_lsp.specs.steps.Located.{client_in};
-ghost use Rattle.cb_lsp.specs.steps.References.{references_left};
 ghost use Rattle.cb_lsp.specs.declared.symbols.TheConstants.{MOST_SYMBOLS};
 
 use crate::columns::Positions;
 use crate::completion::{Completions, MOST_COMPLETIONS};
 use crate::header::{folder_of, header_at, is_in_folder, without_dots};
-use crate::highlights::Highlights;
 use crate::hover::MOST_HOVERS;
 use crate::location::{Forms, Located, range_of};
 use crate::place::bytes_of;
 use crate::question::{FileQuestion, PlaceQuestion};
-use crate::references::{References, UsePlaces};
 use crate::symbols::{
     FileDefs, FlatSymbols, HeaderFiles, MOST_SYMBOLS, OneFile, SessionSymbols, TreeSymbols,
     keep_like, next_like,
@@ -113,7 +109,7 @@ pub(crate) fn put_list<W: Write, I: Elements>(
 
 /// Writes a reply whose result is a list. Its length stands before it; so the list is made in
 /// memory, and where that is refused its elements are found twice: counted, and then written.
-fn put_gathered<W: Write, I: Elements>(
+pub(crate) fn put_gathered<W: Write, I: Elements>(
     alloc: Global,
     out: &mut Sink<W>,
     id: Id<'_>,
@@ -268,88 +264,6 @@ impl<'a> FileAsked<'a> {
         }
     }
 
-    /// Writes the uses of a word in the file.
-    fn put_highlights<W: Write>(
-        &self,
-        out: &mut Sink<W>,
-        id: Id<'_>,
-        word: Option<Span>,
-    ) -> Result<(), WriteFault>
-        ensures { Puts out.old out.new result (frame (value_text (result_reply (id_json id.entry)
-            (highlights_of self.now.forms.encoding self.now.source.now self.now.facts.now.uses
-            word)))) }
-    {
-        let positions = Positions::new(self.forms.encoding, self.source);
-        match word {
-            Some(word) => put_list(
-                out,
-                id,
-                Highlights {
-                    positions,
-                    name: bytes_of(self.source, word),
-                    rest: self.facts.uses(),
-                },
-            ),
-            None => put_list(
-                out,
-                id,
-                Highlights {
-                    positions,
-                    name: &[],
-                    rest: &[],
-                },
-            ),
-        }
-    }
-
-    /// The uses of a word of the file in its reach.
-    fn references<'p>(&'p self, word: Span, declarations: bool) -> References<'a, 'p>
-        ensures { references_left result ≡ word_references self.now.desk.now.timeline.present
-            self.now.name.now self.now.source.now word declarations }
-    {
-        let _files = self.desk.files();
-        let name = bytes_of(self.source, word);
-        References::new(
-            self.desk.uses(name),
-            self.desk.definitions(name),
-            self.name,
-            declarations,
-        )
-    }
-
-    /// Writes where the uses of a word in its reach are.
-    fn put_references<W: Write>(
-        &self,
-        out: &mut Sink<W>,
-        id: Id<'_>,
-        word: Option<Span>,
-        declarations: bool,
-    ) -> Result<(), WriteFault>
-        ensures { Puts out.old out.new result (frame (value_text (result_reply (id_json id.entry)
-            (references_of_word (client_in self.now.forms) self.now.desk.now.timeline.present
-            self.now.name.now self.now.source.now declarations word)))) }
-    {
-        match word {
-            Some(word) => put_gathered(
-                self.alloc,
-                out,
-                id,
-                UsePlaces {
-                    places: Located::new(self.forms, self.desk),
-                    rest: self.references(word, declarations),
-                },
-            ),
-            None => put_list(
-                out,
-                id,
-                OneFile {
-                    forms: self.forms,
-                    rest: None,
-                },
-            ),
-        }
-    }
-
     /// Whether exactly a word of the file is a use.
     fn is_use(&self, word: Span) -> bool
         ensures { result ≡ list_any (is_at word) self.now.facts.now.uses }
@@ -448,9 +362,9 @@ impl<'a> FileAsked<'a> {
             PlaceQuestion::Definition => self.put_places(out, id, word, space, false),
             PlaceQuestion::Declaration => self.put_places(out, id, word, space, true),
             PlaceQuestion::Hover => self.put_hover(out, id, word, space),
-            PlaceQuestion::Highlights => self.put_highlights(out, id, word),
+            PlaceQuestion::Highlights => self.put_highlights(out, id, word, space),
             PlaceQuestion::References(declarations) => {
-                self.put_references(out, id, word, declarations)
+                self.put_references(out, id, word, space, declarations)
             }
             PlaceQuestion::PrepareRename => self.put_prepared(out, id, self.renamable(word)),
             PlaceQuestion::Callables => self.put_callables_at(out, id, word, space),
@@ -479,7 +393,7 @@ impl<'a> FileAsked<'a> {
     }
 
     /// The same where this word stands.
-    fn space_there(
+    pub(crate) fn space_there(
         &self,
         code: &Code<'_>,
         place: u32,
@@ -495,7 +409,7 @@ impl<'a> FileAsked<'a> {
         }
     }
 
-    /// The same where a question is about definitions.
+    /// The same where a question asks for it.
     fn space_asked(
         &self,
         code: &Code<'_>,
@@ -508,11 +422,8 @@ impl<'a> FileAsked<'a> {
             self.now.source.now place word question) }
     {
         match question {
-            PlaceQuestion::Definition => self.space_there(code, place, word),
-            PlaceQuestion::Declaration => self.space_there(code, place, word),
-            PlaceQuestion::Hover => self.space_there(code, place, word),
-            PlaceQuestion::Callables => self.space_there(code, place, word),
-            _ => Ok(None),
+            PlaceQuestion::PrepareRename => Ok(None),
+            _ => self.space_there(code, place, word),
         }
     }
 

@@ -10,7 +10,6 @@ ghost use Rattle.cb_wire.specs.declared.position.Position.{Position};
 ghost use Rattle.cb_wire.specs.declared.units.Encoding.{Encoding};
 ghost use Rattle.cb_wire.specs.Positions.{place};
 ghost use Rattle.cb_desk.specs.World.{IsAscending, World};
-ghost use Rattle.cb_lsp.specs.Answers.{word_references, word_shown};
 ghost use Rattle.cb_lsp.specs.Calls.{calls_reached};
 ghost use Rattle.cb_lsp.specs.Editors.{EditorsCountUnits, EditorsStayInSync};
 ghost use Rattle.cb_lsp.specs.Exact.{RenamesAreExact};
@@ -19,9 +18,11 @@ ghost use Rattle.cb_lsp.specs.Ranges.{IsInOrder, IsNamedIn, IsUseIn, LiesInside}
 ghost use Rattle.cb_lsp.specs.Searches.{found_by};
 ghost use Rattle.cb_lsp.specs.Sync.{DocumentsStayInSync, LostAreTold, RequestsChangeNothing};
 ghost use Rattle.cb_lsp.specs.Sync.{WhatIsToldChangedNothing, WhatIsToldOfEventsChangedNothing};
+ghost use Rattle.cb_lsp.specs.WordUses.{references_in, word_shown};
 ghost use Rattle.cb_lsp.specs.Words.{word_at};
 ghost use Rattle.cb_lsp.specs.declared.completion.TheConstants.{MOST_COMPLETIONS};
 ghost use Rattle.cb_lsp.specs.declared.hover.TheConstants.{MOST_HOVERS};
+ghost use Rattle.cb_lsp.specs.declared.same.Sort.{Sort};
 ghost use Rattle.cb_lsp.specs.declared.symbols.TheConstants.{MOST_SYMBOLS};
 
 /// After any messages, whatever memory is refused and whatever is found where files are read again,
@@ -75,10 +76,10 @@ pub fn ranges_are_of_names()
     ensures shown { (w : World) (name text : List ℕ) (space : Option Space)
         (declarations : Bool) (word : Span) → IsAscending w.files
         → AllByRecursion (IsNamedIn w.files) (word_shown w name text space declarations word) }
-    ensures uses { (w : World) (name text : List ℕ) (word : Span) (declarations : Bool)
-        → IsAscending w.files → IsNameOf text word
+    ensures uses { (w : World) (name text : List ℕ) (sort : Sort) (word : Span)
+        (declarations : Bool) → IsAscending w.files → IsNameOf text word
         → AllByRecursion (IsUseIn w.files (bytes_of text word))
-        (word_references w name text word declarations) }
+        (references_in w name text sort word declarations) }
     ensures calls { (w : World) (name from : List ℕ) → IsAscending w.files
         → is_name name ≡ true
         → AllByRecursion (IsUseIn w.files name) (calls_reached w name from) }

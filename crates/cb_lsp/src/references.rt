@@ -1,17 +1,14 @@
-//! The uses of a name that a file asks for, and where they are.
+//! The uses of a name that a file asks for.
 ghost use Rattle.std.specs.Prelude.{◌≡◌, ◌∷◌};
 ghost use Rattle.std.specs.Iterator.{YieldsFirstBy, item_count};
 ghost use Rattle.cb_index.specs.steps.Left.{fact_of_spot};
 ghost use Rattle.cb_lsp.specs.References.{references};
-ghost use Rattle.cb_lsp.specs.steps.Elements.{uses_left};
 ghost use Rattle.cb_lsp.specs.steps.References.{AreByPlace, UsesAreByPlace, begins_at, first_if};
 ghost use Rattle.cb_lsp.specs.steps.References.{reached_left, references_left, wanted_of};
 
-use crate::location::Located;
 use crate::reach::{Reached, from_place};
 use cb_desk::{Definitions, Uses};
 use cb_index::FactSpot;
-use cb_wire::{Elements, Location};
 
 /// Whether the first of some definitions has its name where a use is.
 fn begins_at(rows: &Definitions<'_, '_>, spot: &FactSpot<'_>) -> bool
@@ -53,17 +50,6 @@ impl<'a, 'p> References<'a, 'p> {
         }
     }
 
-    /// The same once more.
-    fn again(&self) -> References<'a, 'p>
-        ensures { references_left result ≡ references_left self.now }
-    {
-        References {
-            uses: self.uses.again(),
-            definitions: self.definitions.again(),
-            declarations: self.declarations,
-        }
-    }
-
     /// Whether a use is wanted, which is before those that are left.
     #[tactic(auto, unfolding(crate::specs::steps::References::undeclared))]
     fn wants(&mut self, spot: &FactSpot<'a>) -> bool
@@ -93,30 +79,5 @@ impl<'a, 'p> Iterator for References<'a, 'p> {
             }
         }
         None
-    }
-}
-
-/// Where the uses are.
-#[derive(Drop)]
-pub(crate) struct UsePlaces<'a, 'p> {
-    pub(crate) places: Located<'a>,
-    pub(crate) rest: References<'a, 'p>,
-}
-
-impl<'a, 'p> Elements for UsePlaces<'a, 'p> {
-    type Item = Location<'a>;
-
-    ghost texts = { uses_left };
-
-    fn again(&self) -> UsePlaces<'a, 'p> {
-        UsePlaces {
-            places: self.places.again(),
-            rest: self.rest.again(),
-        }
-    }
-
-    fn next(&mut self) -> Option<Location<'a>> {
-        let spot = self.rest.next()?;
-        Some(self.places.use_place(&spot))
     }
 }

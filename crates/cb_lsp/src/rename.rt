@@ -14,16 +14,17 @@ ghost use Rattle.cb_wire.specs.Values.{value_text};
 ghost use Rattle.cb_lsp.specs.Answers.{answer_reply, reply_with};
 ghost use Rattle.cb_lsp.specs.Bodies.{Replies};
 ghost use Rattle.cb_lsp.specs.Documents.{Oracle, Reading};
-ghost use Rattle.cb_lsp.specs.LocalRenames.{renamed_name, renamed_there};
+ghost use Rattle.cb_lsp.specs.NameRenames.{renamed_name, renamed_there};
 ghost use Rattle.cb_lsp.specs.Messages.{reply_unless};
 ghost use Rattle.cb_lsp.specs.Models.{found_in};
 ghost use Rattle.cb_lsp.specs.Names.{is_outside, leads_down};
 ghost use Rattle.cb_lsp.specs.Parameters.{parameter_there};
 ghost use Rattle.cb_lsp.specs.Renames.{all_edits, are_open, check, checked, is_never_edited};
-ghost use Rattle.cb_lsp.specs.Renames.{is_some_use, renamed_all, renamed_uses};
-ghost use Rattle.cb_lsp.specs.Renames.{renamed_word, unless_found, unless_linked};
+ghost use Rattle.cb_lsp.specs.Renames.{is_some_use, renamed_all};
+ghost use Rattle.cb_lsp.specs.Renames.{unless_found, unless_linked};
 ghost use Rattle.cb_lsp.specs.steps.Located.{client_in};
-ghost use Rattle.cb_lsp.specs.steps.References.{UsesAreByPlace, reached_left};
+ghost use Rattle.cb_lsp.specs.steps.References.{UsesAreByPlace};
+ghost use Rattle.cb_lsp.specs.steps.Same.{spots_left};
 ghost use Rattle.cb_lsp.specs.steps.Renames.{check_if, edits_left, is_last_of, reason_of, work_in};
 ghost use Rattle.cb_lsp.specs.steps.Renames.{ComesTo};
 ghost use Rattle.cb_lsp.specs.steps.Works.{one_change};
@@ -33,21 +34,18 @@ use crate::answers::FileAsked;
 use crate::disk::{Disk, Found, has_text, most_read};
 use crate::documents::Documents;
 use crate::location::Located;
-use crate::place::bytes_of;
-use crate::reach::Reached;
-use crate::word::word_at;
-use crate::written::{put_because, put_odd_bytes, put_refusal, put_refused};
+use crate::spots::Spots;
+use crate::written::{put_because, put_odd_bytes, put_refusal, put_refused, put_unknown_type};
 use cb_desk::Desk;
 use cb_names::Code;
-use cb_scan::{Span, is_name};
 use cb_tags::{Sink, WriteFault};
 use cb_wire::{Elements, FileEdit, Id, MOST_ELEMENTS, Part, Position, put_list_result};
 use std::alloc::Global;
 use std::io::Write;
 
 /// Whether a use in a file is the last one there, before others.
-fn is_last_of(file: &[u8], most: usize, rest: &Reached<'_, '_>) -> bool
-    ensures { result ≡ is_last_of file.now (take most (reached_left rest.now)) }
+fn is_last_of(file: &[u8], most: usize, rest: &Spots<'_, '_>) -> bool
+    ensures { result ≡ is_last_of file.now (take most (spots_left rest.now)) }
 {
     if most == 0 {
         return true;
@@ -63,7 +61,7 @@ fn is_last_of(file: &[u8], most: usize, rest: &Reached<'_, '_>) -> bool
 #[derive(Drop)]
 pub(crate) struct UseEdits<'a, 'p> {
     places: Located<'a>,
-    rest: Reached<'a, 'p>,
+    rest: Spots<'a, 'p>,
     /// So many are left at most.
     most: usize,
     new_name: &'a [u8],
@@ -131,6 +129,8 @@ pub(crate) enum Unedited<'a> {
     OddBytes(&'a [u8], u32),
     /// Editors count columns of the file in different ways.
     NotText(&'a [u8]),
+    /// The member on this line may be that of several types.
+    UnknownType(&'a [u8], u32),
 }
 
 /// Writes why a name is not renamed.
@@ -156,6 +156,7 @@ pub(crate) fn put_unedited<W: Write>(
         Unedited::FromOutside(header) => put_because(out, id, b"used from outside: ", header),
         Unedited::OddBytes(file, line) => put_odd_bytes(out, id, file, line),
         Unedited::NotText(file) => put_because(out, id, b"not text: ", file),
+        Unedited::UnknownType(file, line) => put_unknown_type(out, id, file, line),
     }
 }
 
@@ -176,7 +177,7 @@ fn is_outside(name: &[u8]) -> bool
 }
 
 /// Whether a name has a use.
-fn is_used(desk: &Desk, name: &[u8]) -> bool
+pub(crate) fn is_used(desk: &Desk, name: &[u8]) -> bool
     ensures { result ≡ is_some_use (uses_of desk.now.timeline.present.profile name.now
         desk.now.timeline.present.files) }
 {
@@ -196,21 +197,6 @@ pub(crate) struct Renaming<'a> {
 }
 
 impl<'a> Renaming<'a> {
-    /// The uses of a word of the file that are renamed.
-    fn uses<'p>(&'p self, word: Span) -> Reached<'a, 'p>
-        ensures uses { reached_left result ≡ renamed_uses (work_in self.now).world
-            self.now.asked.name.now self.now.asked.source.now word }
-        ensures order { UsesAreByPlace (reached_left result) }
-    {
-        let _files = self.asked.desk.files();
-        let name = bytes_of(self.asked.source, word);
-        Reached::new(
-            self.asked.desk.uses(name),
-            self.asked.desk.definitions(name),
-            self.asked.name,
-        )
-    }
-
     /// Why a file that is not open is not edited, by what is found of it.
     fn unless_found(&self, file: &'a [u8], found: Found) -> Option<Unedited<'a>>
         ensures { option_map reason_of result ≡ unless_found file.entry.now
@@ -302,8 +288,8 @@ impl<'a> Renaming<'a> {
     }
 
     /// Whether the files of uses are open.
-    fn are_open(&self, uses: Reached<'a, '_>) -> bool
-        ensures { result ≡ are_open (work_in self.now).documents (reached_left uses.entry) }
+    fn are_open(&self, uses: Spots<'a, '_>) -> bool
+        ensures { result ≡ are_open (work_in self.now).documents (spots_left uses.entry) }
     {
         let mut left = uses;
         'uses: while let Some(spot) = left.next() {
@@ -319,11 +305,11 @@ impl<'a> Renaming<'a> {
         &self,
         alloc: Global,
         disk: &D,
-        uses: Reached<'a, '_>,
+        uses: Spots<'a, '_>,
     ) -> Option<Unedited<'a>>
-        requires { UsesAreByPlace (reached_left uses) }
+        requires { UsesAreByPlace (spots_left uses) }
         ensures { (o : Oracle) × ComesTo (D.finds disk.now) (checked o
-            (client_in self.now.asked.forms) (work_in self.now) (reached_left uses.entry)) result }
+            (client_in self.now.asked.forms) (work_in self.now) (spots_left uses.entry)) result }
     {
         let all_open = self.are_open(uses.again());
         let mut left = uses;
@@ -342,12 +328,12 @@ impl<'a> Renaming<'a> {
         &self,
         out: &mut Sink<W>,
         id: Id<'_>,
-        uses: Reached<'a, '_>,
+        uses: Spots<'a, '_>,
     ) -> Result<(), WriteFault>
-        requires { UsesAreByPlace (reached_left uses) }
+        requires { UsesAreByPlace (spots_left uses) }
         ensures { Puts out.old out.new result (frame (value_text (result_reply (id_json id.entry)
             (all_edits (client_in self.now.asked.forms) (work_in self.now).world.files
-            self.now.new_name.now (reached_left uses.entry))))) }
+            self.now.new_name.now (spots_left uses.entry))))) }
     {
         let edits = UseEdits {
             places: Located::new(self.asked.forms, self.asked.desk),
@@ -367,67 +353,23 @@ impl<'a> Renaming<'a> {
         )
     }
 
-    /// Writes how a word is renamed, where each of its files is edited.
-    fn put_all<D: Disk, W: Write>(
+    /// Writes how uses are renamed, where each of their files is edited.
+    pub(crate) fn put_all<D: Disk, W: Write>(
         &self,
         alloc: Global,
         disk: &D,
         out: &mut Sink<W>,
         id: Id<'_>,
-        word: Span,
+        uses: Spots<'a, '_>,
     ) -> Result<(), WriteFault>
+        requires { UsesAreByPlace (spots_left uses) }
         ensures { (o : Oracle) × Replies (D.finds disk.now) (reply_with (id_json id.entry)
-            (renamed_all o (client_in self.now.asked.forms)
-            (work_in self.now) self.now.new_name.now
-            (renamed_uses (work_in self.now).world self.now.asked.name.now
-            self.now.asked.source.now word))) out.old out.new result }
+            (renamed_all o (client_in self.now.asked.forms) (work_in self.now)
+            self.now.new_name.now (spots_left uses.entry))) out.old out.new result }
     {
-        match self.first_unedited(alloc, disk, self.uses(word)) {
+        match self.first_unedited(alloc, disk, uses.again()) {
             Some(why) => put_unedited(out, id, why),
-            None => self.put_edits(out, id, self.uses(word)),
-        }
-    }
-
-    /// Writes how a word is renamed, if the new name is a name that is not used.
-    fn put_named<D: Disk, W: Write>(
-        &self,
-        alloc: Global,
-        disk: &D,
-        out: &mut Sink<W>,
-        id: Id<'_>,
-        word: Span,
-    ) -> Result<(), WriteFault>
-        ensures { (o : Oracle) × Replies (D.finds disk.now) (reply_with (id_json id.entry)
-            (renamed_word o (client_in self.now.asked.forms)
-            (work_in self.now) self.now.asked.name.now self.now.asked.source.now
-            self.now.new_name.now (Some word))) out.old out.new result }
-    {
-        if !is_name(self.new_name) {
-            return put_refused(out, id, b"bad name");
-        }
-        if is_used(self.asked.desk, self.new_name) {
-            return put_refused(out, id, b"name is used already");
-        }
-        self.put_all(alloc, disk, out, id, word)
-    }
-
-    /// Writes how a word is renamed, if there is one.
-    fn put_word<D: Disk, W: Write>(
-        &self,
-        alloc: Global,
-        disk: &D,
-        out: &mut Sink<W>,
-        id: Id<'_>,
-        word: Option<Span>,
-    ) -> Result<(), WriteFault>
-        ensures { (o : Oracle) × Replies (D.finds disk.now) (reply_with (id_json id.entry)
-            (renamed_word o (client_in self.now.asked.forms)
-            (work_in self.now) self.now.asked.name.now self.now.asked.source.now
-            self.now.new_name.now word)) out.old out.new result }
-    {
-        match word {
-            Some(word) => self.put_named(alloc, disk, out, id, word),
-            None => put_refused(out, id, b"no such definition"),
+            None => self.put_edits(out, id, uses),
         }
     }
 
@@ -452,12 +394,7 @@ impl<'a> Renaming<'a> {
             (local_at self.now.asked.source.now place))) out.old out.new result }
     {
         match code.local_at(alloc, place) {
-            Ok(None) => {
-                let word = self
-                    .asked
-                    .renamable(word_at(self.asked.source, place as usize));
-                self.put_word(alloc, disk, out, id, word)
-            }
+            Ok(None) => self.put_name(alloc, disk, out, id, code, place),
             Ok(Some(own)) => self.put_local(alloc, disk, out, id, code, place, &own),
             Err(_) => put_refusal(out, id),
         }

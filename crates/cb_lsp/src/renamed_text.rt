@@ -1,6 +1,6 @@
 //! What a rename of a local looks at in its text: other names, the arguments of macros, and the bytes
 //! beside a name.
-ghost use Rattle.std.specs.Prelude.{◌≡◌, ◌<◌, ◌≤◌, ◌^◌, ℕ, IfOk, None, Some};
+ghost use Rattle.std.specs.Prelude.{◌≡◌, ◌+◌, ◌<◌, ◌≤◌, ◌^◌, ℕ, IfOk, None, Some};
 ghost use Rattle.std.specs.Prelude.{count_by, false, filter, find, length, map, nat_lt};
 ghost use Rattle.std.specs.Option.{option_copied, option_map, option_map_or};
 ghost use Rattle.std.specs.List.{list_any};
@@ -308,7 +308,7 @@ fn is_joined_before(text: &[u8], at: usize) -> bool
 
 /// Whether one is joined there.
 fn is_joined_at(text: &[u8], at: usize) -> bool
-    requires { at < 2 ^ 32 }
+    requires { at < 2 ^ 63 + 2 ^ 32 }
     ensures { result ≡ is_joined_at text.now at }
 {
     byte_at(text, at) == b'\\'
@@ -323,14 +323,21 @@ fn is_odd(byte: u8) -> bool
     byte == b'$' || byte == b'@' || byte == b'"' || byte == b'\'' || 128 <= byte
 }
 
-fn is_beside_odd(text: &[u8], span: Span) -> bool
-    ensures { result ≡ is_beside_odd text.now span }
+/// Whether such a byte, or a join of lines, is directly before a place or at another one.
+pub(crate) fn is_beside_odd(text: &[u8], start: usize, end: usize) -> bool
+    requires { end < 2 ^ 63 + 2 ^ 32 }
+    ensures { result ≡ is_beside_odd text.now (record { start = start; end = end }) }
 {
-    let (start, end) = (span.start as usize, span.end as usize);
     is_odd(byte_before(text, start, 1))
         || is_joined_before(text, start)
         || is_odd(byte_at(text, end))
         || is_joined_at(text, end)
+}
+
+fn is_odd_use(text: &[u8], one: &LocalUse) -> bool
+    ensures { result ≡ is_beside_odd text.now one.now.name }
+{
+    is_beside_odd(text, one.name.start as usize, one.name.end as usize)
 }
 
 /// The first use beside such a byte.
@@ -338,7 +345,7 @@ pub(crate) fn first_odd(text: &[u8], uses: &[LocalUse]) -> Option<LocalUse>
     ensures { result ≡ find (λ (u : OwnUse). is_beside_odd text.now u.name) uses.now }
 {
     for i in 0..uses.len() {
-        if is_beside_odd(text, uses[i].name) {
+        if is_odd_use(text, &uses[i]) {
             return Some(uses[i]);
         }
     }

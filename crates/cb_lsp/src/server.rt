@@ -130,7 +130,7 @@ impl Server {
     ghost use Rattle.cb_lsp.specs.Models.{asked_of, found_in};
     ghost use Rattle.cb_lsp.specs.Params.{items_in, member_of, uri_in};
     ghost use Rattle.cb_lsp.specs.Questions.{folds, in_file, incoming, outgoing, rename};
-    ghost use Rattle.cb_lsp.specs.LocalRenames.{renamed_at};
+    ghost use Rattle.cb_lsp.specs.NameRenames.{renamed_at};
     ghost use Rattle.cb_lsp.specs.steps.Located.{client_in};
     ghost use Rattle.cb_lsp.specs.steps.Works.{one_change, one_event, only};
     ghost use Rattle.cb_lsp.specs.Documents.{Oracle, Reading};

@@ -8,10 +8,11 @@ ghost use Rattle.cb_wire.specs.Texts.{frame};
 ghost use Rattle.cb_wire.specs.Trees.{result_reply};
 ghost use Rattle.cb_wire.specs.Values.{value_text};
 ghost use Rattle.cb_lsp.specs.Answers.{callables_at, hover_at, hover_over, list_of, places_of_word};
-ghost use Rattle.cb_lsp.specs.Answers.{some_of, word_shown};
+ghost use Rattle.cb_lsp.specs.Answers.{some_of};
 ghost use Rattle.cb_lsp.specs.Calls.{callables, item_of};
 ghost use Rattle.cb_lsp.specs.Messages.{result_unless};
 ghost use Rattle.cb_lsp.specs.Symbols.{place_of};
+ghost use Rattle.cb_lsp.specs.WordUses.{word_shown};
 ghost use Rattle.cb_lsp.specs.steps.Located.{client_in};
 
 use crate::answers::{FileAsked, put_hovers, put_list};
@@ -32,7 +33,7 @@ use std::io::Write;
 impl<'a> FileAsked<'a> {
     /// The definitions that are shown of a word of the file, where its name has this space:
     /// declarations first, or not.
-    fn shown(
+    pub(crate) fn shown(
         &self,
         word: Span,
         space: Option<Space>,

@@ -10,7 +10,7 @@ ghost use Rattle.cb_wire.specs.Trees.{error_reply, result_reply};
 ghost use Rattle.cb_wire.specs.Uris.{escaped};
 ghost use Rattle.cb_wire.specs.Values.{value_text};
 ghost use Rattle.cb_lsp.specs.Answers.{answer_reply};
-ghost use Rattle.cb_lsp.specs.Renames.{odd_bytes};
+ghost use Rattle.cb_lsp.specs.Renames.{odd_bytes, unknown_type};
 ghost use Rattle.cb_lsp.specs.Messages.{log_of, out_of_memory, out_of_memory_reply, show_if};
 ghost use Rattle.cb_lsp.specs.Messages.{show_of, unasked_reply};
 ghost use Rattle.cb_lsp.specs.Bodies.{written_text};
@@ -122,6 +122,30 @@ pub(crate) fn put_because<W: Write>(
         (error_reply (id_json id.entry) RequestFailed (text.now ++ cause.now)))) }
 {
     put_error(out, id, ErrorCode::RequestFailed, text, cause)
+}
+
+/// Writes that the type of a member is not known, on a line of a file.
+pub(crate) fn put_unknown_type<'a, W: Write>(
+    out: &mut Sink<W>,
+    id: Id<'a>,
+    file: &'a [u8],
+    line: u32,
+) -> Result<(), WriteFault>
+    ensures { Puts out.old out.new result (frame (value_text (answer_reply (id_json id.entry)
+        (Err (unknown_type file.now line))))) }
+{
+    put_message(
+        out,
+        &[
+            Part::Raw(b"{\"jsonrpc\":\"2.0\",\"id\":"),
+            Part::Id(id),
+            Part::Raw(b",\"error\":{\"code\":-32803,\"message\":\"type is not known: "),
+            Part::Escaped(file),
+            Part::Raw(b":"),
+            Part::Number(line as usize),
+            Part::Raw(b"\"}}"),
+        ],
+    )
 }
 
 /// Writes that bytes beside a use are the cause, on a line of a file.

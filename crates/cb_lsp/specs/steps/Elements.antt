@@ -11,7 +11,7 @@ use Rattle.cb_lsp.specs.Calls.{item_of}
 use Rattle.cb_lsp.specs.Clients.{Client}
 use Rattle.cb_lsp.specs.Folds.{folded}
 use Rattle.cb_lsp.specs.Headers.{files_named}
-use Rattle.cb_lsp.specs.Highlights.{highlight, uses_of}
+use Rattle.cb_lsp.specs.Highlights.{highlight}
 use Rattle.cb_lsp.specs.Hovers.{hover_line, hover_text}
 use Rattle.cb_lsp.specs.Locals.{local_mark, token_place, uses_wanted}
 use Rattle.cb_lsp.specs.Searches.{is_like}
@@ -24,7 +24,7 @@ use Rattle.cb_lsp.specs.declared.hover.Hover.{Hover}
 use Rattle.cb_lsp.specs.declared.hover.Hovers.{Hovers}
 use Rattle.cb_lsp.specs.declared.local.LocalMarks.{LocalMarks}
 use Rattle.cb_lsp.specs.declared.local.LocalUses.{LocalUses}
-use Rattle.cb_lsp.specs.declared.references.UsePlaces.{UsePlaces}
+use Rattle.cb_lsp.specs.declared.spots.UsePlaces.{UsePlaces}
 use Rattle.cb_lsp.specs.declared.symbols.FileDefs.{FileDefs}
 use Rattle.cb_lsp.specs.declared.symbols.FlatSymbols.{FlatSymbols}
 use Rattle.cb_lsp.specs.declared.symbols.FoundTags.{FoundTags}
@@ -34,7 +34,7 @@ use Rattle.cb_lsp.specs.declared.symbols.Places.{Places}
 use Rattle.cb_lsp.specs.declared.symbols.SessionSymbols.{SessionSymbols}
 use Rattle.cb_lsp.specs.declared.symbols.TreeSymbols.{TreeSymbols}
 use Rattle.cb_lsp.specs.steps.Located.{client_in}
-use Rattle.cb_lsp.specs.steps.References.{references_left}
+use Rattle.cb_lsp.specs.steps.Same.{spots_left}
 
 -- what a client takes of the definitions of a file
 abbrev pub client_of_defs : FileDefs → Client
@@ -67,7 +67,7 @@ places_left p =
 
 abbrev pub uses_left : UsePlaces → List (List ℕ)
 uses_left p =
-    map (λ u. value_text (place_of_use p.places.client p.places.files u)) (references_left p.rest)
+    map (λ u. value_text (place_of_use p.places.client p.places.files u)) (spots_left p.rest)
 
 abbrev pub session_left : SessionSymbols → List (List ℕ)
 session_left s =
@@ -90,8 +90,7 @@ file_left f = file_if (client_in f.forms) f.rest
 
 abbrev pub highlights_left : Highlights → List (List ℕ)
 highlights_left h =
-    map (λ u. value_text (highlight h.positions.encoding h.positions.text u))
-    (uses_of h.positions.text h.name.now h.rest.now)
+    map (λ u. value_text (highlight h.positions.encoding h.positions.text u)) h.rest.now
 
 abbrev pub local_marks_left : LocalMarks → List (List ℕ)
 local_marks_left m =

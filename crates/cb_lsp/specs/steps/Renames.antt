@@ -12,15 +12,15 @@ use Rattle.cb_lsp.specs.Clients.{Client}
 use Rattle.cb_lsp.specs.Documents.{Looked, Oracle, Work, behind_reading}
 use Rattle.cb_lsp.specs.Renames.{Check, Unrenamed, bad_name, check, from_outside, in_arguments}
 use Rattle.cb_lsp.specs.Renames.{in_macro, macro_or_type, no_memory, not_open, not_text, odd_bytes}
-use Rattle.cb_lsp.specs.Renames.{second_name, then_check, use_edit, used_already}
+use Rattle.cb_lsp.specs.Renames.{second_name, then_check, unknown_type, use_edit, used_already}
 use Rattle.cb_lsp.specs.declared.rename.Renaming.{Renaming}
 use Rattle.cb_lsp.specs.declared.rename.Unedited.{Unedited}
 use Rattle.cb_lsp.specs.declared.rename.Unedited.TheVariants.{BadName, FromOutside, InArguments}
 use Rattle.cb_lsp.specs.declared.rename.Unedited.TheVariants.{InMacro, MacroOrType, NoMemory}
 use Rattle.cb_lsp.specs.declared.rename.Unedited.TheVariants.{NotOpen, NotText, OddBytes, SecondName}
-use Rattle.cb_lsp.specs.declared.rename.Unedited.TheVariants.{UsedAlready}
+use Rattle.cb_lsp.specs.declared.rename.Unedited.TheVariants.{UnknownType, UsedAlready}
 use Rattle.cb_lsp.specs.declared.rename.UseEdits.{UseEdits}
-use Rattle.cb_lsp.specs.steps.References.{reached_left}
+use Rattle.cb_lsp.specs.steps.Same.{spots_left}
 
 -- a use is the last one of its file
 abbrev pub is_last_of : (file : List ℕ) → List Fact → Bool
@@ -39,7 +39,7 @@ texts_of_uses c files new opens (u ∷ us) =
 abbrev pub edits_left : UseEdits → List (List ℕ)
 edits_left e =
     texts_of_uses e.places.client e.places.files e.new_name.now e.opens
-    (take e.most (reached_left e.rest))
+    (take e.most (spots_left e.rest))
 
 -- the files and documents in which a name is changed
 abbrev pub work_in : Renaming → Work
@@ -63,6 +63,7 @@ reason_of (InArguments name) = in_arguments name.now
 reason_of (FromOutside header) = from_outside header.now
 reason_of (OddBytes file line) = odd_bytes file.now line
 reason_of (NotText file) = not_text file.now
+reason_of (UnknownType file line) = unknown_type file.now line
 
 -- a check comes to this result, and what was read for it is what is found there
 abbrev pub ComesTo : (finds : Looked → Type 0) → Check → Option Unedited → Type 0

@@ -72,3 +72,9 @@ returns-in-NotText g c =
     subst (λ w. Puts c.args.out.now c.put_because-in-NotText.new.out c.put_because-in-NotText.result
     (frame (value_text (answer_reply (id_json c.args.id) (Err (reason_of w))))))
     (sym c.in-NotText.is) c.put_because-in-NotText.ensures
+
+pub returns-in-UnknownType : goal.returns-in-UnknownType
+returns-in-UnknownType g c =
+    subst (λ w. Puts c.args.out.now c.put_unknown_type.new.out c.put_unknown_type.result
+    (frame (value_text (answer_reply (id_json c.args.id) (Err (reason_of w))))))
+    (sym c.in-UnknownType.is) c.put_unknown_type.ensures

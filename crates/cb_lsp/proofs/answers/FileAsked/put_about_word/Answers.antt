@@ -49,12 +49,12 @@ pub returns-in-References : goal.returns-in-References
 returns-in-References g c =
     let f = c.args.self.now in
     let call = c.put_references in (
-      false,
+      call.ensures.0,
       subst (λ q. Puts c.args.out.now call.new.out call.result
-          (frame (value_text (result_unless false (id_json c.args.id)
+          (frame (value_text (result_unless call.ensures.0 (id_json c.args.id)
           (word_answer (client_in f.forms) f.desk.now.timeline.present f.name.now f.source.now
           c.args.space c.args.word q)))))
-          (sym c.in-References.is) call.ensures,
+          (sym c.in-References.is) call.ensures.1,
     )
 
 pub returns-in-Callables : goal.returns-in-Callables
@@ -72,16 +72,17 @@ returns-in-Callables g c =
 pub returns-in-Highlights : goal.returns-in-Highlights
 returns-in-Highlights g c =
     let f = c.args.self.now in
+    let w = f.desk.now.timeline.present in
     let call = c.put_highlights in (
-      false,
+      call.ensures.0,
       subst (λ q. Puts c.args.out.now call.new.out call.result
-          (frame (value_text (result_unless false (id_json c.args.id)
-          (word_answer (client_in f.forms) f.desk.now.timeline.present f.name.now f.source.now
+          (frame (value_text (result_unless call.ensures.0 (id_json c.args.id)
+          (word_answer (client_in f.forms) w f.name.now f.source.now
           c.args.space c.args.word q)))))
           (sym c.in-Highlights.is) (subst (λ fs. Puts c.args.out.now call.new.out call.result
-          (frame (value_text (result_unless false (id_json c.args.id)
-          (highlights_of f.forms.encoding f.source.now fs.uses c.args.word)))))
-          c.requires call.ensures),
+          (frame (value_text (result_unless call.ensures.0 (id_json c.args.id)
+          (highlights_of f.forms.encoding w f.name.now f.source.now fs c.args.space c.args.word)))))
+          c.requires call.ensures.1),
     )
 
 pub returns-in-PrepareRename : goal.returns-in-PrepareRename

@@ -2,7 +2,7 @@ use Rattle.std.proofs.Common.{◌∙◌, Some, ap, subst, sym, true}
 use Rattle.cb_scan.specs.Profiles.{facts_in}
 use Rattle.cb_wire.specs.Messages.{id_json}
 use Rattle.cb_lsp.specs.Bodies.{Replies}
-use Rattle.cb_lsp.specs.LocalRenames.{renamed_there}
+use Rattle.cb_lsp.specs.NameRenames.{renamed_there}
 use Rattle.cb_lsp.specs.Messages.{reply_unless}
 use Rattle.cb_lsp.specs.Parameters.{parameter_there}
 use Rattle.cb_lsp.specs.steps.Located.{client_in}

@@ -1,13 +1,10 @@
 use Rattle.std.proofs.Common.{List, Some, None, subst}
 use Rattle.cb_index.specs.Rows.{Fact}
-use Rattle.cb_tags.specs.Writing.{Puts}
 use Rattle.cb_wire.specs.Messages.{id_json}
-use Rattle.cb_wire.specs.Texts.{frame}
-use Rattle.cb_wire.specs.Trees.{result_reply}
-use Rattle.cb_wire.specs.Values.{value_text}
-use Rattle.cb_lsp.specs.Renames.{all_edits, checked, renamed_uses}
+use Rattle.cb_lsp.specs.Renames.{all_edits, checked}
 use Rattle.cb_lsp.specs.steps.Located.{client_in}
 use Rattle.cb_lsp.specs.steps.Renames.{ComesTo, reason_of, work_in}
+use Rattle.cb_lsp.specs.steps.Same.{spots_left}
 use Rattle.cb_lsp.proofs.Unedited.{renamed-none, renamed-so}
 use Rattle.cb_lsp.proofs.rename.Renaming.put_all.Goals as goal
 
@@ -17,13 +14,13 @@ returns-in-Some g c =
     let w = work_in f in
     let cl = client_in f.asked.forms in
     let finds = g.D.Disk.finds c.args.disk.now in
-    let us = renamed_uses w.world f.asked.name.now f.asked.source.now c.args.word in
+    let us = spots_left c.args.uses in
     let why = c.in-Some.ensures in (
       why.0,
       renamed-so finds (checked why.0 cl w us) (all_edits cl w.world.files f.new_name.now us)
           (reason_of c.in-Some.why) (id_json c.args.id) _ _ c.put_unedited.result
           (subst (λ (vs : List Fact). ComesTo finds (checked why.0 cl w vs)
-          (Some c.in-Some.why)) c.uses.ensures.uses why.1) c.put_unedited.ensures,
+          (Some c.in-Some.why)) c.again.ensures why.1) c.put_unedited.ensures,
     )
 
 pub returns-in-None : goal.returns-in-None
@@ -32,15 +29,12 @@ returns-in-None g c =
     let w = work_in f in
     let cl = client_in f.asked.forms in
     let finds = g.D.Disk.finds c.args.disk.now in
-    let us = renamed_uses w.world f.asked.name.now f.asked.source.now c.args.word in
+    let us = spots_left c.args.uses in
     let why = c.in-None.ensures in
     let call = c.put_edits in (
       why.0,
       renamed-none finds (checked why.0 cl w us) (all_edits cl w.world.files f.new_name.now us)
           (id_json c.args.id) _ _ call.result
           (subst (λ (vs : List Fact). ComesTo finds (checked why.0 cl w vs) None)
-          c.uses.ensures.uses why.1)
-          (subst (λ vs. Puts c.args.out.now call.new.out call.result (frame (value_text
-          (result_reply (id_json c.args.id) (all_edits cl w.world.files f.new_name.now vs)))))
-          c.uses-in-None.ensures.uses call.ensures),
+          c.again.ensures why.1) call.ensures,
     )

@@ -2,9 +2,8 @@ use Rattle.std.proofs.Common.{◌∙◌, ap, subst, sym, false, true}
 use Rattle.cb_names.specs.Meanings.{local_at}
 use Rattle.cb_lsp.specs.Bodies.{Replies}
 use Rattle.cb_wire.specs.Messages.{id_json}
-use Rattle.cb_lsp.specs.LocalRenames.{renamed_name}
+use Rattle.cb_lsp.specs.NameRenames.{renamed_name}
 use Rattle.cb_lsp.specs.Messages.{reply_unless}
-use Rattle.cb_lsp.specs.Renames.{if_renamable, renamed_word}
 use Rattle.cb_lsp.specs.steps.Located.{client_in}
 use Rattle.cb_lsp.specs.steps.Renames.{work_in}
 use Rattle.cb_lsp.proofs.Notices.{quiet}
@@ -13,19 +12,17 @@ use Rattle.cb_lsp.proofs.rename.Renaming.put_code.Goals as goal
 pub returns-in-Ok-None : goal.returns-in-Ok-None
 returns-in-Ok-None g c =
     let f = c.args.self.now in
-    let w = f.asked.desk.now.timeline.present in
     let text = f.asked.source.now in
     let k = client_in f.asked.forms in
-    let word = c.put_word.ensures in
-    let is = ap (renamed_word word.0 k (work_in f) f.asked.name.now text f.new_name.now)
-    (c.renamable-word.ensures ∙ ap (if_renamable w text) c.word_at.ensures)
-    ∙ ap (renamed_name word.0 k (work_in f) f.asked.name.now text f.new_name.now
+    let call = c.put_name in
+    let put = call.ensures in
+    let is = ap (renamed_name put.1 k (work_in f) f.asked.name.now text f.new_name.now
     c.args.place) (sym c.in-Ok-None.field-0-is ∙ c.in-Ok-None.ensures
     ∙ ap (λ t. local_at t c.args.place) c.requires.code) in (
-      false,
-      word.0,
-      subst (λ a. Replies (g.D.Disk.finds c.args.disk.now) (reply_unless false
-          (id_json c.args.id) a) c.args.out.now c.put_word.new.out c.put_word.result) is word.1,
+      put.0,
+      put.1,
+      subst (λ a. Replies (g.D.Disk.finds c.args.disk.now) (reply_unless put.0
+          (id_json c.args.id) a) c.args.out.now call.new.out call.result) is put.2,
     )
 
 pub returns-in-Ok-Some : goal.returns-in-Ok-Some

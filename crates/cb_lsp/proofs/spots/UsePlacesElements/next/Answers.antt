@@ -4,8 +4,8 @@ use Rattle.cb_wire.specs.Values.{value_text}
 use Rattle.cb_lsp.specs.Symbols.{place_of_use}
 use Rattle.cb_lsp.specs.steps.Elements.{uses_left}
 use Rattle.cb_lsp.specs.steps.Located.{Locating}
-use Rattle.cb_lsp.specs.steps.References.{references_left}
-use Rattle.cb_lsp.proofs.references.UsePlacesElements.next.Goals as goal
+use Rattle.cb_lsp.specs.steps.Same.{spots_left}
+use Rattle.cb_lsp.proofs.spots.UsePlacesElements.next.Goals as goal
 
 pub returns : goal.returns
 returns c =
@@ -13,5 +13,5 @@ returns c =
     ∷ uses_left (record { places = c.args.self.now.places; rest = c.next.new.self }) =
     search rules in
     front ∙ ap (λ (l : Locating). location_text c.use_place.result
-    ∷ map (λ u. value_text (place_of_use l.client l.files u)) (references_left c.next.new.self))
+    ∷ map (λ u. value_text (place_of_use l.client l.files u)) (spots_left c.next.new.self))
     (sym c.use_place.ensures.same)

@@ -1,7 +1,7 @@
 use Rattle.std.proofs.Common.{map}
 use Rattle.cb_wire.specs.Values.{value_text}
 use Rattle.cb_lsp.specs.Symbols.{place_of_use}
-use Rattle.cb_lsp.proofs.references.UsePlacesElements.again.Goals as goal
+use Rattle.cb_lsp.proofs.spots.UsePlacesElements.again.Goals as goal
 
 pub returns : goal.returns
 returns c =
