@@ -1,8 +1,9 @@
 -- How a name of the files is renamed, or why it is not; and what is renamed at a position.
-use Rattle.std.specs.Prelude.{ℕ, ◌+◌, Bool, ◌&&◌, not, List, [], ◌∷◌, find, length, Option, None, Some}
+use Rattle.std.specs.Prelude.{ℕ, ◌+◌, Bool, ◌&&◌, ◌||◌, not, List, [], ◌∷◌, find, length, Option, None, Some}
 use Rattle.std.specs.Prelude.{Err, false, true, if◌then◌else◌}
 use Rattle.std.specs.List.{list_any}
 use Rattle.std.specs.Option.{option_map, option_or}
+use Rattle.std.specs.Str.{bytes_eq}
 use Rattle.cb_desk.specs.World.{World, has_file, text_of_file}
 use Rattle.cb_index.specs.Rows.{Fact, tags_named, uses_of}
 use Rattle.cb_names.specs.FunctionNames.{function_names}
@@ -12,6 +13,7 @@ use Rattle.cb_names.specs.Parameters.{ParameterName}
 use Rattle.cb_names.specs.declared.space.Space.{Space}
 use Rattle.cb_scan.specs.Lines.{line_of}
 use Rattle.cb_scan.specs.Profiles.{facts_in}
+use Rattle.cb_scan.specs.declared.facts.Kind.{Kind}
 use Rattle.cb_scan.specs.declared.lex.piece.Span.{Span}
 use Rattle.cb_scan.specs.lex.Tokens.{bytes_of}
 use Rattle.cb_tags.specs.TagLines.{Tag}
@@ -22,15 +24,17 @@ use Rattle.cb_lsp.specs.Clients.{Client}
 use Rattle.cb_lsp.specs.Documents.{Oracle, Work}
 use Rattle.cb_lsp.specs.LocalRenames.{is_bad, is_beside_odd, renamed_local, renamed_parameter}
 use Rattle.cb_lsp.specs.LocalRenames.{some_if}
+use Rattle.cb_lsp.specs.Nearest.{is_member, is_private, is_tag}
 use Rattle.cb_lsp.specs.Parameters.{is_macro, parameter_there}
-use Rattle.cb_lsp.specs.Renames.{Answered, Unrenamed, bad_name, if_renamable, is_some_use}
+use Rattle.cb_lsp.specs.Renames.{Answered, Unrenamed, bad_name, from_outside, if_renamable}
+use Rattle.cb_lsp.specs.Renames.{is_some_use}
 use Rattle.cb_lsp.specs.Renames.{macro_or_type, no_definition, not_text, odd_bytes, renamed_all}
 use Rattle.cb_lsp.specs.Renames.{unknown_type, used_already, without_reading}
 use Rattle.cb_lsp.specs.WordSpaces.{space_there}
 use Rattle.cb_lsp.specs.WordUses.{references_in, word_sort}
 use Rattle.cb_lsp.specs.Words.{word_at}
 use Rattle.cb_lsp.specs.declared.same.Sort.{Sort}
-use Rattle.cb_lsp.specs.declared.same.Sort.TheVariants.{Members}
+use Rattle.cb_lsp.specs.declared.same.Sort.TheVariants.{All, Members, Ordinary, Tags}
 
 -- ---- why a name of the files is not renamed
 
@@ -57,6 +61,31 @@ abbrev pub unless_typed : World → (name text : List ℕ) → Sort → Span →
 unless_typed w name text Members word =
     Some (untyped w name text word (references_in w name text Members word false))
 unless_typed w name text sort word = None
+
+-- definitions of this kind are of a sort
+abbrev pub has_kind : Sort → Kind → Bool
+has_kind All k = is_macro k
+has_kind Members k = false
+has_kind Tags k = is_tag k
+has_kind Ordinary k = not (is_member k || is_tag k)
+
+-- a definition is of a sort, and private to its file
+abbrev pub is_kept : Sort → Tag → Bool
+is_kept sort t = has_kind sort t.kind && is_private t
+
+-- where some uses are in a file, the first that is not
+abbrev pub first_outside : (file : List ℕ) → List Fact → Option Fact
+first_outside file us =
+    if list_any (λ (u : Fact). bytes_eq u.file file) us
+    then find (λ (u : Fact). not (bytes_eq u.file file)) us else None
+
+-- by a definition that is private to a file, where uses of others would be renamed with it
+unfoldable pub unless_kept : Sort → List Tag → List Fact → Option Unrenamed
+unless_kept sort [] us = None
+unless_kept sort (t ∷ ts) us =
+    option_or (if is_kept sort t
+    then option_map (λ (u : Fact). from_outside u.file) (first_outside t.file us) else None)
+    (unless_kept sort ts us)
 
 -- a byte beside a use may be one of a name
 abbrev pub span_of_use : Fact → Span
@@ -92,11 +121,20 @@ answer_unless (Some why) a = without_reading (Err why)
 abbrev pub renamed_uses : Oracle → Client → Work → (new : List ℕ) → List Fact → Answered
 renamed_uses o c w new us = answer_unless (unless_uses w.world us) (renamed_all o c w new us)
 
--- those of a word that are of a sort
+-- these uses of a word that are of a sort
+abbrev pub renamed_found : Oracle → Client → Work → (text new : List ℕ) → Sort → Span → List Fact
+    → Answered
+renamed_found o c w text new sort word us =
+    answer_unless
+    (unless_kept sort (tags_named w.world.profile (bytes_of text word) w.world.files) us)
+    (renamed_uses o c w new us)
+
+-- all of them
 abbrev pub renamed_sort : Oracle → Client → Work → (name text new : List ℕ) → Sort → Span → Answered
 renamed_sort o c w name text new sort word =
     answer_unless (unless_typed w.world name text sort word)
-    (renamed_uses o c w new (references_in w.world name text sort word true))
+    (renamed_found o c w text new sort word
+    (references_in w.world name text sort word true))
 
 -- those that name the same as a word of the file of this name and text, whose name has this space
 abbrev pub renamed_word : Oracle → Client → Work → (name text : List ℕ) → Option Space

@@ -14,7 +14,14 @@ ghost use Rattle.cb_lsp.specs.Messages.{reply_unless};
 ghost use Rattle.cb_lsp.specs.NameRenames.{is_mixed, is_odd_use, is_unlike_use, renamed_name};
 ghost use Rattle.cb_lsp.specs.NameRenames.{renamed_sort, renamed_uses, renamed_word, unless_odd};
 ghost use Rattle.cb_lsp.specs.NameRenames.{unless_typed, unless_unlike, unless_uses, unless_word};
-ghost use Rattle.cb_lsp.specs.NameRenames.{untyped};
+ghost use Rattle.cb_lsp.specs.NameRenames.{first_outside, has_kind, is_kept, renamed_found};
+ghost use Rattle.cb_lsp.specs.NameRenames.{unless_kept, untyped};
+ghost use Rattle.cb_lsp.specs.Renames.{from_outside};
+ghost use Rattle.cb_index.specs.Rows.{Fact};
+ghost use Rattle.std.specs.Str.{bytes_eq};
+ghost use Rattle.std.specs.Option.{option_copied};
+ghost use Rattle.std.specs.Prelude.{if◌then◌else◌};
+ghost use Rattle.cb_tags.specs.TagLines.{tag_of};
 ghost use Rattle.cb_lsp.specs.Parameters.{is_macro};
 ghost use Rattle.cb_index.specs.Rows.{tags_named};
 ghost use Rattle.cb_tags.specs.TagLines.{Tag};
@@ -29,6 +36,7 @@ ghost use Rattle.cb_lsp.specs.steps.Renames.{reason_of, work_in};
 
 use crate::alike::is_counted_alike;
 use crate::disk::Disk;
+use crate::nearest::is_private;
 use crate::place::bytes_of;
 use crate::rename::{Renaming, Unedited, is_used, put_unedited};
 use crate::renamed_text::{is_bad, is_beside_odd};
@@ -40,7 +48,7 @@ use cb_desk::Desk;
 use cb_index::FactSpot;
 use cb_names::{Code, Space};
 use cb_scan::{Kind, Span};
-use cb_tags::{Sink, WriteFault};
+use cb_tags::{Sink, TagRow, WriteFault};
 use cb_wire::Id;
 use std::alloc::{AllocError, Global};
 use std::io::Write;
@@ -85,6 +93,86 @@ fn is_mixed(desk: &Desk, name: &[u8]) -> bool
         desk.now.timeline.present.files) }
 {
     has_macro(desk, name) && has_other(desk, name)
+}
+
+/// Whether definitions of a kind are of a sort.
+fn has_kind(sort: Sort, kind: Kind) -> bool
+    ensures { result ≡ has_kind sort kind }
+{
+    match sort {
+        Sort::All => is_macro(kind),
+        Sort::Members => false,
+        Sort::Tags => matches!(kind, Kind::Struct | Kind::Union | Kind::Enum),
+        Sort::Ordinary => {
+            !matches!(kind, Kind::Member | Kind::Struct | Kind::Union | Kind::Enum)
+        }
+    }
+}
+
+/// Whether a definition is of a sort, and private to its file.
+fn is_kept(sort: Sort, row: &TagRow<'_>) -> bool
+    ensures { result ≡ is_kept sort (tag_of row.now) }
+{
+    has_kind(sort, row.kind) && is_private(row)
+}
+
+/// Whether one of some uses is in a file.
+fn has_file(file: &[u8], spots: &[FactSpot<'_>]) -> bool
+    ensures { result ≡ list_any (λ (u : Fact). bytes_eq u.file file.now)
+        (map fact_of_spot spots.now) }
+{
+    let mut rest = spots;
+    'spots: while let [spot, more @ ..] = rest {
+        if spot.file == file {
+            return true;
+        }
+        rest = more;
+    }
+    false
+}
+
+/// The file of the first use that is in another one.
+fn other_file<'a>(file: &[u8], spots: &[FactSpot<'a>]) -> Option<&'a [u8]>
+    ensures { option_copied result ≡ option_map (λ (u : Fact). u.file)
+        (find (λ (u : Fact). not (bytes_eq u.file file.now)) (map fact_of_spot spots.now)) }
+{
+    let mut rest = spots;
+    'spots: while let [spot, more @ ..] = rest {
+        if spot.file != file {
+            return Some(spot.file);
+        }
+        rest = more;
+    }
+    None
+}
+
+/// Where some uses are in a file, that of the first which is not.
+fn file_outside<'a>(file: &[u8], spots: &[FactSpot<'a>]) -> Option<&'a [u8]>
+    ensures { option_copied result ≡ option_map (λ (u : Fact). u.file)
+        (first_outside file.now (map fact_of_spot spots.now)) }
+{
+    if has_file(file, spots) {
+        other_file(file, spots)
+    } else {
+        None
+    }
+}
+
+/// The same for the file to which a definition of a sort is private.
+fn kept_outside<'a>(
+    sort: Sort,
+    row: &TagRow<'_>,
+    spots: &[FactSpot<'a>],
+) -> Option<&'a [u8]>
+    ensures { option_map (λ f. from_outside f.now) result ≡ (if is_kept sort (tag_of row.now)
+        then option_map (λ (u : Fact). from_outside u.file)
+        (first_outside (tag_of row.now).file (map fact_of_spot spots.now)) else None) }
+{
+    if is_kept(sort, row) {
+        file_outside(row.file, spots)
+    } else {
+        None
+    }
 }
 
 impl<'a> Renaming<'a> {
@@ -153,6 +241,28 @@ impl<'a> Renaming<'a> {
             }
             _ => Ok(None),
         }
+    }
+
+    /// Why uses of a word are not, of which some would be renamed with a definition that is private
+    /// to the file of others.
+    #[tactic(auto, unfolding(crate::specs::NameRenames::unless_kept))]
+    fn unless_kept(
+        &self,
+        sort: Sort,
+        name: &[u8],
+        spots: &[FactSpot<'a>],
+    ) -> Option<Unedited<'a>>
+        ensures { option_map reason_of result ≡ unless_kept sort (tags_named
+            (work_in self.now).world.profile name.now (work_in self.now).world.files)
+            (map fact_of_spot spots.now) }
+    {
+        let mut left = self.asked.desk.definitions(name);
+        'rows: while let Some(row) = left.next() {
+            if let Some(file) = kept_outside(sort, &row, spots) {
+                return Some(Unedited::FromOutside(file));
+            }
+        }
+        None
     }
 
     fn is_odd_use(&self, spot: &FactSpot<'a>) -> bool
@@ -245,6 +355,29 @@ impl<'a> Renaming<'a> {
         }
     }
 
+    /// Writes how uses of a word are renamed that are of a sort, or why not.
+    fn put_found<D: Disk, W: Write>(
+        &self,
+        alloc: Global,
+        disk: &D,
+        out: &mut Sink<W>,
+        id: Id<'_>,
+        word: Span,
+        sort: Sort,
+        spots: &[FactSpot<'a>],
+    ) -> Result<(), WriteFault>
+        requires { UsesAreByPlace (map fact_of_spot spots.now) }
+        ensures { (o : Oracle) × Replies (D.finds disk.now) (reply_with (id_json id.entry)
+            (renamed_found o (client_in self.now.asked.forms) (work_in self.now)
+            self.now.asked.source.now self.now.new_name.now sort word
+            (map fact_of_spot spots.now))) out.old out.new result }
+    {
+        match self.unless_kept(sort, bytes_of(self.asked.source, word), spots) {
+            Some(why) => put_unedited(out, id, why),
+            None => self.put_spots(alloc, disk, out, id, spots),
+        }
+    }
+
     /// Writes how the uses of a word are renamed that are of a sort.
     fn put_sort<D: Disk, W: Write>(
         &self,
@@ -256,13 +389,13 @@ impl<'a> Renaming<'a> {
         sort: Sort,
     ) -> Result<(), WriteFault>
         ensures { (no_memory : Bool) × (o : Oracle) × Replies (D.finds disk.now) (reply_unless
-            no_memory (id_json id.entry) (renamed_uses o (client_in self.now.asked.forms)
-            (work_in self.now) self.now.new_name.now (references_in (work_in self.now).world
-            self.now.asked.name.now self.now.asked.source.now sort word true))) out.old out.new
-            result }
+            no_memory (id_json id.entry) (renamed_found o (client_in self.now.asked.forms)
+            (work_in self.now) self.now.asked.source.now self.now.new_name.now sort word
+            (references_in (work_in self.now).world self.now.asked.name.now
+            self.now.asked.source.now sort word true))) out.old out.new result }
     {
         match self.asked.uses_of_sort(sort, word, true) {
-            Ok(spots) => self.put_spots(alloc, disk, out, id, spots.as_slice()),
+            Ok(spots) => self.put_found(alloc, disk, out, id, word, sort, spots.as_slice()),
             Err(_) => put_refusal(out, id),
         }
     }

@@ -111,7 +111,7 @@ fn is_source(file: &[u8]) -> bool
 /// Whether a definition is private to its file: that ends in `.c`, and the definition is local, or
 /// of a kind that has no linkage.
 #[tactic(auto, unfolding(crate::specs::Nearest::is_private))]
-fn is_private(row: &TagRow<'_>) -> bool
+pub(crate) fn is_private(row: &TagRow<'_>) -> bool
     ensures { result ≡ is_private (tag_of row.now) }
 {
     let linked = matches!(

@@ -1,4 +1,4 @@
-use Rattle.std.proofs.Common.{◌∙◌, ap, subst, sym, false, true}
+use Rattle.std.proofs.Common.{◌∙◌, ap, subst, sym, true}
 use Rattle.cb_names.specs.Meanings.{local_at}
 use Rattle.cb_lsp.specs.Bodies.{Replies}
 use Rattle.cb_wire.specs.Messages.{id_json}

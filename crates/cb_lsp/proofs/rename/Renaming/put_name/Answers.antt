@@ -1,12 +1,10 @@
-use Rattle.std.proofs.Common.{◌∙◌, ap, subst, sym, true}
-use Rattle.cb_scan.specs.Profiles.{facts_in}
+use Rattle.std.proofs.Common.{◌∙◌, ap, subst, true}
 use Rattle.cb_wire.specs.Messages.{id_json}
 use Rattle.cb_lsp.specs.Bodies.{Replies}
 use Rattle.cb_lsp.specs.Messages.{reply_unless}
 use Rattle.cb_lsp.specs.NameRenames.{renamed_word}
 use Rattle.cb_lsp.specs.Renames.{if_renamable}
 use Rattle.cb_lsp.specs.WordSpaces.{space_there}
-use Rattle.cb_lsp.specs.Words.{word_at}
 use Rattle.cb_lsp.specs.steps.Located.{client_in}
 use Rattle.cb_lsp.specs.steps.Renames.{work_in}
 use Rattle.cb_lsp.proofs.Notices.{quiet}

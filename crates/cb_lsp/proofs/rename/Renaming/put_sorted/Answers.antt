@@ -3,7 +3,7 @@ use Rattle.std.specs.Option.{option_map}
 use Rattle.cb_wire.specs.Messages.{id_json}
 use Rattle.cb_lsp.specs.Bodies.{Replies}
 use Rattle.cb_lsp.specs.Messages.{reply_unless}
-use Rattle.cb_lsp.specs.NameRenames.{answer_unless, renamed_uses}
+use Rattle.cb_lsp.specs.NameRenames.{answer_unless, renamed_found}
 use Rattle.cb_lsp.specs.WordUses.{references_in}
 use Rattle.cb_lsp.specs.steps.Located.{client_in}
 use Rattle.cb_lsp.specs.steps.Renames.{reason_of, work_in}
@@ -22,7 +22,7 @@ returns-in-Ok-None g c =
       put.0,
       put.1,
       subst (λ r. Replies (g.D.Disk.finds c.args.disk.now) (reply_unless put.0 (id_json c.args.id)
-          (answer_unless r (renamed_uses put.1 k w f.new_name.now us))) c.args.out.now call.new.out call.result)
+          (answer_unless r (renamed_found put.1 k w f.asked.source.now f.new_name.now c.args.sort c.args.word us))) c.args.out.now call.new.out call.result)
           why put.2,
     )
 
@@ -37,7 +37,7 @@ returns-in-Ok-Some g c =
       false,
       quiet,
       subst (λ r. Replies (g.D.Disk.finds c.args.disk.now) (reply_unless false (id_json c.args.id)
-          (answer_unless r (renamed_uses quiet k w f.new_name.now us))) c.args.out.now call.new.out call.result)
+          (answer_unless r (renamed_found quiet k w f.asked.source.now f.new_name.now c.args.sort c.args.word us))) c.args.out.now call.new.out call.result)
           why (call.ensures, tt),
     )
 
