@@ -591,7 +591,7 @@ class Checks:
             asked = {"textDocument": {"uri": uri}, "position": {"line": 0, "character": 4 + LONGER}}
             where = {"uri": place, "range": line_range(0, 4, 4 + LONGER)}
             symbol = {"name": name, "kind": 12, "location": where}
-            labels = [{"label": name, "kind": 3}]
+            labels = [{"label": name, "kind": 3, "sortText": "1" + name}]
             wants = (
                 ("textDocument/definition", asked, [where]),
                 ("textDocument/completion", asked, {"isIncomplete": False, "items": labels}),

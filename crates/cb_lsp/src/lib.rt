@@ -47,6 +47,7 @@ mod shown;
 mod symbols;
 mod text;
 mod turn;
+mod visible;
 mod word;
 mod workspace;
 mod written;
