@@ -451,7 +451,7 @@ class Checks:
             (6, [place]),
             (7, {"contents": hover, "range": name}),
             (8, [{"range": it} for it in [name, *calls]]),
-            (9, {"isIncomplete": False, "items": [{"label": "u", "kind": 3}]}),
+            (9, {"isIncomplete": False, "items": [{"label": "u", "kind": 3, "sortText": "1u"}]}),
             (10, name),
             (11, [item]),
             (12, [{"from": item, "fromRanges": calls}]),
