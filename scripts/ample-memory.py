@@ -451,7 +451,7 @@ class Checks:
             (6, [place]),
             (7, {"contents": hover, "range": name}),
             (8, [{"range": it} for it in [name, *calls]]),
-            (9, {"isIncomplete": False, "items": [{"label": "u", "kind": 3}]}),
+            (9, {"isIncomplete": False, "items": [{"label": "u", "kind": 3, "sortText": "1u"}]}),
             (10, name),
             (11, [item]),
             (12, [{"from": item, "fromRanges": calls}]),
@@ -591,7 +591,7 @@ class Checks:
             asked = {"textDocument": {"uri": uri}, "position": {"line": 0, "character": 4 + LONGER}}
             where = {"uri": place, "range": line_range(0, 4, 4 + LONGER)}
             symbol = {"name": name, "kind": 12, "location": where}
-            labels = [{"label": name, "kind": 3}]
+            labels = [{"label": name, "kind": 3, "sortText": "1" + name}]
             wants = (
                 ("textDocument/definition", asked, [where]),
                 ("textDocument/completion", asked, {"isIncomplete": False, "items": labels}),

@@ -129,9 +129,16 @@ def mark(place: str) -> str:
     return '{"range":%s%s}' % (span(*place.split(":")), kind and ',"kind":' + kind)
 
 
+def completion(name: str) -> str:
+    """NAME=KIND, or *NAME=KIND for a name of the function."""
+    label, kind = name.removeprefix("*").split("=")
+    rank = 0 if name.startswith("*") else 1
+    return f'{{"label":"{label}","kind":{kind},"sortText":"{rank}{label}"}}'
+
+
 def completions(names: list[str], more: bool = False) -> str:
-    """Names that complete a word, each NAME=KIND, and whether there are more."""
-    items = ['{"label":"%s","kind":%s}' % tuple(it.split("=")) for it in names]
+    """Names that complete a word, and whether there are more."""
+    items = map(completion, names)
     return '{"isIncomplete":%s,"items":[%s]}' % ("true" if more else "false", ",".join(items))
 
 

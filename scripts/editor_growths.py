@@ -145,6 +145,7 @@ def session() -> list[Step]:
         asked(19, "definition", "new.c", 1, 1),
         asked(20, "prepareRename", "new.c", 1, 1),
         asked(21, "rename", "new.c", 2, 8),
+        asked(22, "completion", "new.c", 2, 9),
         closed("a.c"),
         asked(8, "documentSymbol", "a.c", 0, 0),
         closed("new.c"),

@@ -125,6 +125,24 @@ def local_at(text, place):
     return names.local(token) if token and names.is_local(token.place) else None
 
 
+def visible_at(text, place):
+    """The names of locals, without labels, that are declared before a place in its function, and
+    whose scopes go on there."""
+    if not may_have_locals(text):
+        return set()
+    names = names_of(text)
+    lasts = {token.end: token.place for token in names.code.tokens}
+    return {
+        thing.name
+        for thing, places in names.definitions.items()
+        if thing.kind == "local"
+        and thing.space == "ordinary"
+        and names.is_in_function(thing)
+        and place <= lasts[thing.end]
+        and any(it < place and it not in names.left_out for it in places)
+    }
+
+
 def space_at(text, place):
     """The name space of the name at a place, or none: a label is no space here."""
     names = names_of(text)

@@ -18,7 +18,7 @@ from typing import Callable, NamedTuple, Optional
 import text_model
 import wide_model
 from disk_model import GONE, LINKED, UNREADABLE, Disk
-from locals_model import local_at, names_of, space_at
+from locals_model import local_at, names_of, space_at, visible_at
 from reach_model import Refusal, Tree
 from session_model import Bounds, Outcome, Refused, World, drop, is_file_name, load, reload, told
 from text_model import RESERVED, cut_lines, headers, is_counted_alike
@@ -1102,13 +1102,18 @@ class Server:
         word = re.search(rb"\w*\Z", text[:place])[0]
         if not word:
             return b'{"isIncomplete":true,"items":[]}'
+        own = {it for it in visible_at(text, place - len(word)) if it.startswith(word)}
         kinds: dict = {}  # by name: that of the first definition
         for it in self.places():
-            if it.definition.name.startswith(word):
+            if it.definition.name.startswith(word) and it.definition.name not in own:
                 kinds.setdefault(it.definition.name, COMPLETION_KINDS[it.definition.kind])
-        told = sorted(kinds)[:MOST_COMPLETIONS]
-        items = (b'{"label":%s,"kind":%d}' % (quoted(it), kinds[it]) for it in told)
-        more = b"true" if len(kinds) > MOST_COMPLETIONS else b"false"
+        names = [(it, COMPLETION_KINDS[b"v"], b"0") for it in sorted(own)]
+        names += [(it, kinds[it], b"1") for it in sorted(kinds)]
+        items = (
+            b'{"label":%s,"kind":%d,"sortText":%s}' % (quoted(it), kind, quoted(rank + it))
+            for it, kind, rank in names[:MOST_COMPLETIONS]
+        )
+        more = b"true" if len(names) > MOST_COMPLETIONS else b"false"
         return b'{"isIncomplete":%s,"items":%s}' % (more, listed(items))
 
     def item(self, place):

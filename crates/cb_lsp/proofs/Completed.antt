@@ -268,12 +268,12 @@ module _ (word : List ℕ) where
 
 -- ---- a word that is empty, or is not
 
-pub none-complete : (w : World) (word : List ℕ) → length word < 1
-    → completions_before w word ≡ completion_list true []
-none-complete w [] none = refl
-none-complete w (b ∷ bs) none = absurd (omega (arith, none))
+pub none-complete : (w : World) (own : List (List ℕ)) (word : List ℕ) → length word < 1
+    → completions_before w own word ≡ completion_list true []
+none-complete w own [] none = refl
+none-complete w own (b ∷ bs) none = absurd (omega (arith, none))
 
-pub some-complete : (w : World) (word : List ℕ) → 1 ≤ length word
-    → completions_of (completing w word) ≡ completions_before w word
-some-complete w [] some = absurd (omega (arith, some))
-some-complete w (b ∷ bs) some = refl
+pub some-complete : (w : World) (own : List (List ℕ)) (word : List ℕ) → 1 ≤ length word
+    → completions_of (completing w own word) ≡ completions_before w own word
+some-complete w own [] some = absurd (omega (arith, some))
+some-complete w own (b ∷ bs) some = refl

@@ -42,6 +42,7 @@ pub mod Numbers
 pub mod OneTurn
 pub mod Opened
 pub mod Outgoings
+pub mod OwnNames
 pub mod Ranged
 pub mod Reaches
 pub mod Refreshed

@@ -27,7 +27,7 @@ use Rattle.cb_wire.specs.Values.{items_of}
 use Rattle.cb_wire.specs.declared.list.TheConstants.{MOST_ELEMENTS}
 use Rattle.cb_lsp.specs.Calls.{callables, incoming_calls, item_of}
 use Rattle.cb_lsp.specs.Clients.{Client}
-use Rattle.cb_lsp.specs.Completions.{completions_before, word_before}
+use Rattle.cb_lsp.specs.Completions.{completions_at}
 use Rattle.cb_lsp.specs.Documents.{Looked, Oracle, Work}
 use Rattle.cb_lsp.specs.Folds.{folds_in}
 use Rattle.cb_lsp.specs.Headers.{header_at, header_files}
@@ -201,7 +201,7 @@ answer_in c w name text (At p question) =
     place_answer c w name text at (header_asked (facts_in w.profile text).includes at question)
     question
 answer_in c w name text (Completions p) =
-    completions_before w (word_before text (place c.encoding text p))
+    completions_at w text (place c.encoding text p)
 
 -- the same about a file of this name, if there is one
 abbrev pub answer_named : Client → World → FileQuestion → Option (List ℕ) → Json

@@ -20,10 +20,9 @@ ghost use Rattle.cb_wire.specs.Values.{items_of, value_text};
 ghost use Rattle.cb_wire.specs.declared.list.TheConstants.{MOST_ELEMENTS};
 ghost use Rattle.cb_lsp.specs.Answers.{answer_in, header_asked};
 ghost use Rattle.cb_lsp.specs.Answers.{list_of, name_answer};
-ghost use Rattle.cb_lsp.specs.Answers.{named_answer, place_answer, space_asked};
+ghost use Rattle.cb_lsp.specs.Answers.{named_answer, place_answer, space_asked, word_answer};
+ghost use Rattle.cb_lsp.specs.Completions.{completing, completions_at, completions_of, own_names};
 ghost use Rattle.cb_lsp.specs.WordSpaces.{is_member_at, space_there, space_told};
-ghost use Rattle.cb_lsp.specs.Answers.{word_answer};
-ghost use Rattle.cb_lsp.specs.Completions.{completions_before, completions_of};
 ghost use Rattle.cb_lsp.specs.Headers.{folder_of, header_files};
 ghost use Rattle.cb_lsp.specs.Hovers.{hover_of, hover_shown};
 ghost use Rattle.cb_lsp.specs.Messages.{result_unless};
@@ -32,7 +31,7 @@ ghost use Rattle.cb_lsp.specs.Renames.{if_renamable, is_at, is_some_tag, prepare
 ghost use Rattle.cb_lsp.specs.Searches.{found_by};
 ghost use Rattle.cb_lsp.specs.Symbols.{file_place, file_symbol, session_symbol};
 ghost use Rattle.cb_lsp.specs.Words.{word_at};
-ghost use Rattle.cb_lsp.specs.steps.Completions.{names_left};
+ghost use Rattle.cb_lsp.specs.steps.Completions.{completions_left};
 ghost use Rattle.cb_lsp.specs.steps.Located.{client_in};
 ghost use Rattle.cb_lsp.specs.declared.symbols.TheConstants.{MOST_SYMBOLS};
 
@@ -47,7 +46,8 @@ use crate::symbols::{
     FileDefs, FlatSymbols, HeaderFiles, MOST_SYMBOLS, OneFile, SessionSymbols, TreeSymbols,
     keep_like, next_like,
 };
-use crate::word::{word_at, word_before};
+use crate::visible::own_names;
+use crate::word::{word_at, word_before, word_start};
 use crate::written::{put_null, put_refusal};
 use cb_desk::{Desk, Format};
 use cb_index::TagSpot;
@@ -175,10 +175,10 @@ fn names_head(more: bool) -> &'static [u8]
 fn put_names<W: Write>(
     out: &mut Sink<W>,
     id: Id<'_>,
-    names: Completions<'_>,
+    names: Completions<'_, '_>,
 ) -> Result<(), WriteFault>
     ensures { Puts out.old out.new result (frame (value_text (result_reply (id_json id.entry)
-        (completions_of (names_left names.entry))))) }
+        (completions_of (completions_left names.entry))))) }
 {
     let head = names_head(names.are_more());
     let tail = [Part::Raw(b"]}")];
@@ -326,19 +326,41 @@ impl<'a> FileAsked<'a> {
         }
     }
 
-    /// Writes the names that complete a word.
+    /// Writes the names that complete a word which begins at a place.
+    fn put_completing<W: Write>(
+        &self,
+        out: &mut Sink<W>,
+        id: Id<'_>,
+        start: u32,
+        word: &'a [u8],
+    ) -> Result<(), WriteFault>
+        ensures { (no_memory : Bool) × Puts out.old out.new result (frame (value_text
+            (result_unless no_memory (id_json id.entry) (completions_of (completing
+            self.now.desk.now.timeline.present (own_names self.now.source.now start word.entry.now)
+            word.entry.now))))) }
+    {
+        match own_names(self.alloc, self.source, start, word) {
+            Ok(own) => put_names(out, id, Completions::new(self.desk, &own, word)),
+            Err(_) => put_refusal(out, id),
+        }
+    }
+
+    /// Writes the names that complete the word before a place.
     fn put_completions<W: Write>(
         &self,
         out: &mut Sink<W>,
         id: Id<'_>,
-        word: &'a [u8],
+        place: usize,
     ) -> Result<(), WriteFault>
-        ensures { Puts out.old out.new result (frame (value_text (result_reply (id_json id.entry)
-            (completions_before self.now.desk.now.timeline.present word.now)))) }
+        requires { place ≤ length self.now.source.now }
+        ensures { (no_memory : Bool) × Puts out.old out.new result (frame (value_text
+            (result_unless no_memory (id_json id.entry) (completions_at
+            self.now.desk.now.timeline.present self.now.source.now place)))) }
     {
+        let word = word_before(self.source, place);
         match word {
             [] => put_no_names(out, id),
-            [_, ..] => put_names(out, id, Completions::new(self.desk, word)),
+            [_, ..] => self.put_completing(out, id, word_start(self.source, place), word),
         }
     }
 
@@ -563,8 +585,7 @@ impl<'a> FileAsked<'a> {
                 self.put_about_place(out, id, self.place(position), question)
             }
             FileQuestion::Completions(position) => {
-                let place = self.place(position) as usize;
-                self.put_completions(out, id, word_before(self.source, place))
+                self.put_completions(out, id, self.place(position) as usize)
             }
         }
     }

@@ -50,6 +50,7 @@ mod spots;
 mod symbols;
 mod text;
 mod turn;
+mod visible;
 mod word;
 mod word_uses;
 mod workspace;

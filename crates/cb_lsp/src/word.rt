@@ -2,7 +2,7 @@
 ghost use Rattle.std.specs.Prelude.{◌≡◌, ◌≤◌, length};
 ghost use Rattle.std.specs.List.{prefix_len, suffix_len};
 ghost use Rattle.cb_scan.specs.lex.Lexeme.{is_word};
-ghost use Rattle.cb_lsp.specs.Completions.{word_before};
+ghost use Rattle.cb_lsp.specs.Completions.{word_before, word_start};
 ghost use Rattle.cb_lsp.specs.Words.{word_at};
 
 use cb_scan::{Source, Span, is_name};
@@ -54,11 +54,20 @@ pub(crate) fn word_at(source: &Source, place: usize) -> Option<Span>
     }
 }
 
+/// Where the word before a place begins.
+pub(crate) fn word_start(source: &Source, place: usize) -> u32
+    requires { place ≤ length source.now }
+    ensures value { result ≡ word_start source.now place }
+    ensures within { result ≤ place }
+{
+    (place - last_word(source.bytes().split_at(place).0)) as u32
+}
+
 /// The word before a place: the longest run of letters, digits and `_` that ends at it.
 pub(crate) fn word_before(source: &Source, place: usize) -> &[u8]
     requires { place ≤ length source.now }
     ensures { result.now ≡ word_before source.now place }
 {
     let before = source.bytes().split_at(place).0;
-    before.split_at(place - last_word(before)).1
+    before.split_at(word_start(source, place) as usize).1
 }

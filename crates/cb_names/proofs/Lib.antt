@@ -22,3 +22,5 @@ pub mod ScopeLemmas
 pub mod ShapeLemmas
 pub mod TableLemmas
 pub mod VariableLemmas
+pub mod VisibleLaws
+pub mod VisibleLemmas

@@ -23,5 +23,6 @@ pub mod SpacedNames
 pub mod Spaces
 pub mod Statements
 pub mod Tables
+pub mod Visible
 pub mod Words
 pub mod steps

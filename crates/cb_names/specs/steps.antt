@@ -10,3 +10,4 @@ pub mod Replacing
 pub mod Scoping
 pub mod Starting
 pub mod Telling
+pub mod Visible

@@ -29,6 +29,16 @@ use crate::spaces::is_ordinary;
 use cb_scan::Span;
 use std::alloc::{AllocError, Global};
 
+/// The scope of what a token declares.
+pub(crate) fn scope_at(scopes: &[Scope], index: u32) -> Scope
+    ensures { result ≡ scope_by scopes.now index }
+{
+    match scopes.get(index as usize) {
+        Some(scope) => *scope,
+        None => Scope { first: 0, last: 0 },
+    }
+}
+
 /// What is known of the names of a function that have these bytes.
 #[derive(Clone, Copy)]
 struct Named<'a> {
@@ -78,10 +88,7 @@ impl Named<'_> {
     fn scope(&self, index: u32) -> Scope
         ensures { result ≡ scope_by self.now.scopes.now index }
     {
-        match self.scopes.get(index as usize) {
-            Some(scope) => *scope,
-            None => Scope { first: 0, last: 0 },
-        }
+        scope_at(self.scopes, index)
     }
 
     /// Of two declarations the one in the inner scope, or the later one.

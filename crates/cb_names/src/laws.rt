@@ -7,6 +7,7 @@ ghost use Rattle.cb_names.specs.Renaming.{IsNewToAll, IsNewToLabels, IsNewToName
 ghost use Rattle.cb_names.specs.Renaming.{UsesAsBefore, bound_in, has, is_label_use, is_use_of};
 ghost use Rattle.cb_names.specs.Renaming.{listed, own_words, spans_where, with_label, with_local};
 ghost use Rattle.cb_names.specs.Spaces.{is_ordinary};
+ghost use Rattle.cb_names.specs.Visible.{has_spelled, is_seen, visible_in};
 ghost use Rattle.cb_names.specs.declared.word.Item.{Item};
 
 /// The answer for a name that is bound to a declaration lists the uses of the local declared there.
@@ -28,6 +29,13 @@ pub fn uses_are_apart()
     ensures apart { (text : List ℕ) (xs : List Item) (m b d e k : ℕ)
         → is_use_of text xs m b d k ≡ true → is_use_of text xs m b e k ≡ true
         → (j : ℕ) → is_use_of text xs m b d j ≡ is_use_of text xs m b e j }
+{}
+
+/// A name is that of a declaration which is visible at an index exactly if a token with the name,
+/// put there, is bound to a declaration before it.
+pub fn visible_names_are_bound()
+    ensures { (text : List ℕ) (xs : List Item) (m b k : ℕ) (name : List ℕ)
+        → has_spelled text (visible_in xs m b k) name ≡ is_seen text xs m b name k }
 {}
 
 /// Each declaration of a name is bound to itself if each `for` that is the scope of one stands

@@ -36,6 +36,7 @@ mod own;
 mod space;
 mod spaced;
 mod spaces;
+mod visible;
 
 // What macros make of names, and the names of a function that may be macros.
 mod directive;

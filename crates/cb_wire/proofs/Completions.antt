@@ -1,5 +1,5 @@
 -- The texts of names that complete a word.
-use Rattle.std.proofs.Common.{◌≡◌, ℕ, ◌<◌, ◌^◌, Bool, true, false, List, ◌++◌, map, ap, ◌∙◌}
+use Rattle.std.proofs.Common.{◌≡◌, ℕ, ◌<◌, ◌^◌, Bool, true, false, List, ◌++◌, ◌∷◌, map, ap, ◌∙◌}
 use Rattle.std.proofs.Common.{decimal, sym}
 use Rattle.std.specs.Prelude.{codes}
 use Rattle.json.specs.Json.{Json}
@@ -7,9 +7,11 @@ use Rattle.json.specs.Print.{escape, escape_byte}
 use Rattle.json.specs.Tree.{HasNumbers}
 use Rattle.json.proofs.Printed.Decimals.{IsNumber-decimal}
 use Rattle.cb_wire.specs.declared.completion.Completion.{Completion}
+use Rattle.cb_wire.specs.declared.completion.Rank.{Rank}
+use Rattle.cb_wire.specs.declared.completion.Rank.TheVariants.{Local, Session}
 use Rattle.cb_wire.specs.declared.message.Id.{Id}
 use Rattle.cb_wire.specs.Completions.{completion_item, completion_list, completion_tree}
-use Rattle.cb_wire.specs.Completions.{completions_front}
+use Rattle.cb_wire.specs.Completions.{completions_front, rank_digit}
 use Rattle.cb_wire.specs.Lists.{list_text}
 use Rattle.cb_wire.specs.Messages.{id_json}
 use Rattle.cb_wire.specs.Replies.{result_body}
@@ -19,15 +21,17 @@ use Rattle.cb_wire.specs.Values.{value_text}
 use Rattle.cb_wire.proofs.Printed.{array-then, value_text-is}
 use Rattle.cb_wire.proofs.Trees.{result-text}
 
-pub item-text : (label : List ℕ) (kind : ℕ)
-    → value_text (completion_item label kind)
+pub item-text : (label : List ℕ) (kind : ℕ) (rank : Rank)
+    → value_text (completion_item label kind rank)
     ≡ codes "{\"label\":\"" ++ (escape (readable label)
-    ++ (codes "\",\"kind\":" ++ (decimal kind ++ codes "}")))
+    ++ (codes "\",\"kind\":" ++ (decimal kind ++ (codes ",\"sortText\":\""
+    ++ (rank_digit rank ∷ (escape (readable label) ++ codes "\"}"))))))
 unfolding escape_byte
-item-text label kind = value_text-is (completion_item label kind)
+item-text label kind Local = value_text-is (completion_item label kind Local)
+item-text label kind Session = value_text-is (completion_item label kind Session)
 
 pub item-numbers : (c : Completion) → c.kind < 2 ^ 64 → HasNumbers (completion_tree c)
-item-numbers c k = (tt, (IsNumber-decimal c.kind k, tt))
+item-numbers c k = (tt, (IsNumber-decimal c.kind k, (tt, tt)))
 
 -- the text of a list of them
 pub completions-text : (more : Bool) (js : List Json)

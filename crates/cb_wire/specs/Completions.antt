@@ -1,18 +1,27 @@
 -- Names that complete a word, as the protocol tells them.
-use Rattle.std.specs.Prelude.{ℕ, Bool, true, false, List, codes, decimal}
+use Rattle.std.specs.Prelude.{ℕ, Bool, true, false, List, ◌∷◌, codes, decimal}
 use Rattle.json.specs.Json.{Json, array, boolean, number, string, object, no_members, member}
 use Rattle.cb_wire.specs.declared.completion.Completion.{Completion}
+use Rattle.cb_wire.specs.declared.completion.Rank.{Rank}
+use Rattle.cb_wire.specs.declared.completion.Rank.TheVariants.{Local, Session}
 use Rattle.cb_wire.specs.Texts.{readable}
 use Rattle.cb_wire.specs.Values.{items_of, value_text}
 
--- a name that completes a word, and the number of its kind
-abbrev pub completion_item : List ℕ → ℕ → Json
-completion_item label kind =
+-- the digit of a rank: `0` or `1`
+abbrev pub rank_digit : Rank → ℕ
+rank_digit Local = 48
+rank_digit Session = 49
+
+-- a name that completes a word, and the number of its kind. An editor sorts names by their rank, and
+-- those of one rank by their bytes
+abbrev pub completion_item : List ℕ → ℕ → Rank → Json
+completion_item label kind rank =
     object (member (codes "label") (string (readable label))
-    (member (codes "kind") (number (decimal kind)) no_members))
+    (member (codes "kind") (number (decimal kind))
+    (member (codes "sortText") (string (rank_digit rank ∷ readable label)) no_members)))
 
 abbrev pub completion_tree : Completion → Json
-completion_tree c = completion_item c.label.now c.kind
+completion_tree c = completion_item c.label.now c.kind c.rank
 
 abbrev pub completion_text : Completion → List ℕ
 completion_text c = value_text (completion_tree c)

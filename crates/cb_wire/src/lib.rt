@@ -27,7 +27,7 @@ mod watch;
 mod welcome;
 
 pub use calls::{CallItem, Calls, Ranged, Side};
-pub use completion::Completion;
+pub use completion::{Completion, Rank};
 pub use edits::FileEdit;
 pub use fold::Fold;
 pub use frame::{Frame, FrameError, Frames, MOST_BODY};

@@ -3,3 +3,4 @@ mod labels;
 mod locals;
 mod parameters;
 mod spaces;
+mod visible;

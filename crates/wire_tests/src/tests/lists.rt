@@ -1,8 +1,9 @@
 //! Places of files, and replies whose result is a list.
 use cb_tags::{Sink, WriteFault, put_text};
 use cb_wire::{
-    Completion, Element, Elements, Fold, Id, Location, MOST_ELEMENTS, Part, Position, Range, Root,
-    Symbol, TreeSymbol, list_in_memory, part_length, parts_length, put_list_result, put_parts,
+    Completion, Element, Elements, Fold, Id, Location, MOST_ELEMENTS, Part, Position, Range, Rank,
+    Root, Symbol, TreeSymbol, list_in_memory, part_length, parts_length, put_list_result,
+    put_parts,
 };
 use std::io::Write;
 use std::test::Fail;
@@ -154,10 +155,12 @@ fn names_that_complete_a_word_are_listed(rt: HostRuntime) {
         Completion {
             label: b"ab",
             kind: 3,
+            rank: Rank::Local,
         },
         Completion {
             label: b"a\xFF\"",
             kind: 21,
+            rank: Rank::Session,
         },
     ];
     let mut written = Vec::new(rt.alloc());
@@ -167,9 +170,9 @@ fn names_that_complete_a_word_are_listed(rt: HostRuntime) {
     assert!(rt; put_list_result(&mut sink, id, head, b",", &tail, 2, names.as_slice()).is_ok());
     assert_eq!(rt;
         written.as_slice(),
-        b"Content-Length: 118\r\n\r\n{\"jsonrpc\":\"2.0\",\"id\":5,\"result\":\
-          {\"isIncomplete\":true,\"items\":[{\"label\":\"ab\",\"kind\":3},\
-          {\"label\":\"a\xEF\xBF\xBD\\\"\",\"kind\":21}]}}"
+        b"Content-Length: 156\r\n\r\n{\"jsonrpc\":\"2.0\",\"id\":5,\"result\":\
+          {\"isIncomplete\":true,\"items\":[{\"label\":\"ab\",\"kind\":3,\"sortText\":\"0ab\"},\
+          {\"label\":\"a\xEF\xBF\xBD\\\"\",\"kind\":21,\"sortText\":\"1a\xEF\xBF\xBD\\\"\"}]}}"
             .as_slice()
     );
 }

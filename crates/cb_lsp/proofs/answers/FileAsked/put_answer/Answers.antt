@@ -1,4 +1,4 @@
-use Rattle.std.proofs.Common.{subst, ap, sym, ◌∙◌, false, map}
+use Rattle.std.proofs.Common.{subst, sym, false, map}
 use Rattle.cb_tags.specs.Writing.{Puts}
 use Rattle.cb_wire.specs.Messages.{id_json}
 use Rattle.cb_wire.specs.Texts.{frame}
@@ -6,7 +6,7 @@ use Rattle.cb_wire.specs.Trees.{result_reply}
 use Rattle.cb_wire.specs.Values.{value_text}
 use Rattle.cb_wire.specs.Positions.{place}
 use Rattle.cb_lsp.specs.Answers.{answer_in, header_asked, list_of, place_answer}
-use Rattle.cb_lsp.specs.Completions.{completions_before, word_before}
+use Rattle.cb_lsp.specs.Completions.{completions_at}
 use Rattle.cb_lsp.specs.Messages.{result_unless}
 use Rattle.cb_lsp.specs.Symbols.{file_symbol}
 use Rattle.cb_lsp.specs.steps.Located.{client_in}
@@ -56,14 +56,13 @@ returns-in-Completions g c =
     let f = c.args.self.now in
     let w = f.desk.now.timeline.present in
     let call = c.put_completions in (
-      false,
+      call.ensures.0,
       subst (λ q. Puts c.args.out.now call.new.out call.result
-          (frame (value_text (result_unless false (id_json c.args.id)
+          (frame (value_text (result_unless call.ensures.0 (id_json c.args.id)
           (answer_in (client_in f.forms) w f.name.now f.source.now q)))))
           (sym c.in-Completions.is)
-          (subst (λ word. Puts c.args.out.now call.new.out call.result
-          (frame (value_text (result_reply (id_json c.args.id) (completions_before w word)))))
-          (c.word_before.ensures
-          ∙ ap (word_before f.source.now) c.place-place.ensures.value)
-          call.ensures),
+          (subst (λ p. Puts c.args.out.now call.new.out call.result
+          (frame (value_text (result_unless call.ensures.0 (id_json c.args.id)
+          (completions_at w f.source.now p)))))
+          c.place-in-Completions.ensures.value call.ensures.1),
     )

@@ -1,6 +1,6 @@
 use Rattle.std.proofs.Common.{◌≡◌, length}
 use Rattle.cb_lsp.specs.steps.Completions.{names_left}
-use Rattle.cb_lsp.proofs.completion.Completions.next_name.Given as goal
+use Rattle.cb_lsp.proofs.completion.Names.next_name.Given as goal
 
 abbrev pub invariant-rows : goal.invariant-rows
 invariant-rows l = names_left l.self ≡ names_left l.fn.self
