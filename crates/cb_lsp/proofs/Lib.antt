@@ -30,6 +30,7 @@ pub mod LocalEdits
 pub mod LostTold
 pub mod ManyTurns
 pub mod Marks
+pub mod NameOrder
 pub mod NamePlaces
 pub mod NamedCalls
 pub mod NamedTags

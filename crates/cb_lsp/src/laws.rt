@@ -1,6 +1,10 @@
 //! What follows from the definitions alone: no code runs here.
 ghost use Rattle.std.specs.Prelude.{◌≡◌, ◌≤◌, ℕ, Bool, true, List, Option, Some};
-ghost use Rattle.std.specs.List.{AllByRecursion};
+ghost use Rattle.std.specs.Cmp.Lexicographic.{slice_cmp};
+ghost use Rattle.std.specs.List.{AllByRecursion, list_any};
+ghost use Rattle.std.specs.List.Sorted.{IsStrictlySortedBy};
+ghost use Rattle.std.specs.Ordering.{nat_cmp};
+ghost use Rattle.std.specs.Str.{bytes_eq};
 ghost use Rattle.cb_names.specs.declared.space.Space.{Space};
 ghost use Rattle.cb_scan.specs.Definitions.{IsNameOf};
 ghost use Rattle.cb_scan.specs.declared.lex.piece.Span.{Span};
@@ -11,6 +15,7 @@ ghost use Rattle.cb_wire.specs.declared.units.Encoding.{Encoding};
 ghost use Rattle.cb_wire.specs.Positions.{place};
 ghost use Rattle.cb_desk.specs.World.{IsAscending, World};
 ghost use Rattle.cb_lsp.specs.Calls.{calls_reached};
+ghost use Rattle.cb_lsp.specs.Completions.{in_name_order};
 ghost use Rattle.cb_lsp.specs.Editors.{EditorsCountUnits, EditorsStayInSync};
 ghost use Rattle.cb_lsp.specs.Exact.{RenamesAreExact};
 ghost use Rattle.cb_lsp.specs.Places.{line_range, range_of, range_of_line, start_of_file};
@@ -92,6 +97,15 @@ pub fn ranges_are_of_names()
 /// was.
 pub fn renames_are_exact()
     ensures { RenamesAreExact }
+{}
+
+/// The names of a function that complete a word stand in the order of their bytes, each once, and
+/// are the names that were put in order.
+pub fn own_names_stand_in_order()
+    ensures order { (names : List (List ℕ))
+        → IsStrictlySortedBy (slice_cmp nat_cmp) (in_name_order names) }
+    ensures same { (names : List (List ℕ)) (name : List ℕ)
+        → list_any (bytes_eq name) (in_name_order names) ≡ list_any (bytes_eq name) names }
 {}
 
 /// The bounds of answers by number: the symbols that a query finds, the names that complete a word,
