@@ -1038,7 +1038,12 @@ class Server:
             raise Error(-32803, b"no such definition")
         if local_at(text, word[0]) is not None:
             return self.rename_by_scope(file, word[0], new)
-        name, sort = self.wanted(file, text, word[0], word)
+        uses = self.renamed(file, word, new)
+        return self.edits(uses, text[word[0] : word[1]], new)
+
+    def renamed(self, file, word, new):
+        """The places of the uses of a word that is no local, by file, which a rename edits."""
+        name, sort = self.wanted(file, self.world.files[file], word[0], word)
         self.refuse_names(name, new)
         uses = self.uses_in(self.reached(file, name), name, sort)
         if sort == MEMBER:
@@ -1052,7 +1057,7 @@ class Server:
             if not self.may_edit(it):
                 raise Error(-32803, quoted(b"not open: " + it)[1:-1])
             self.refuse_second_name(it, uses)
-        return self.edits(uses, name, new)
+        return uses
 
     def refuse_names(self, name, new):
         """A new name is one that no file uses, and the old one is not that of a macro besides."""
