@@ -1,4 +1,4 @@
-"""Draws random texts of C in which one spelling means many things, in files that include each other.
+"""Draws random texts in which one spelling means many things, in files that include each other.
 
 A name is a function, a member, a tag, a variable, a parameter, a label, a macro and a parameter of
 a macro, often in one text. It stands in conditions, in other directives, in attributes, in comments
@@ -38,7 +38,8 @@ USING = [
     "int l(int (*g)(int {}), int {}) {{ return {}; }}", "int m(int (*{})(int {}));",
     "#define R(p) ((p)->{}(1))", "#define CALL {}(1) + {}", "#define ID({}) ({}) + p->{}",
     "#define U(x) union {} *{}; struct {}", "#define V {{ .{} = {} }}", "#define W ...{} ..{} x.{}",
-    "#define X(x, {}) x {} \\\n\t{}->{} {}.x", "#define {} {}->{} struct {}", "#define Y - >{} - {}",
+    "#define X(x, {}) x {} \\\n\t{}->{} {}.x", "#define {} {}->{} struct {}",
+    "#define Y - >{} - {}",
     "#if {}", "#ifdef {}", "#ifndef {}", "#elif {} + {}", "#elifdef {}", "#undef {}", "#endif",
     "#endif", "#else", "#pragma {} ({})", "#line {}", "# {} {}", "#if p->{} || struct {}",
     "#elifndef {}", "#error {} .{}", "int b __attribute__(({}, x->{})); {} d;",
