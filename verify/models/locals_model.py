@@ -44,6 +44,12 @@ class Names(names_model.Text):
         self.parts_of_file = [part for part, place in firsts if not inside[self.index[place]]]
         return inside
 
+    def is_member(self, stream, index):
+        """Whether a name is directly behind an accessor, attributes left out."""
+        before = stream.before(index)
+        is_arrow = stream.text(before) == b">" and stream.is_arrow(before - 1)
+        return is_arrow or stream.is_dot(before)
+
     def declare_in_blocks(self):
         """Takes each name with which a part of an enumeration begins for an enumerator."""
         tokens = enumerate(self.code.tokens)
