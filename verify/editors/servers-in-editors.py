@@ -1085,6 +1085,14 @@ def locals_of_functions(plan: Plan, editor: str) -> None:
     plan.ask("prepare", ITEMS_C, 23, 8, is_now=None)
     plan.ask("rename", ITEMS_C, 23, 8, is_now="no such definition")
     plan.ask("marks", ITEMS_C, 23, 8, is_now=[(23, 6, 13, TEXT)])
+    # the member count and the function add have no use among these
+    plan.ask("uses", ITEMS_C, 5, 19, is_now=[(ITEMS_C, 5, 18, 23)])
+    plan.ask("marks", ITEMS_C, 5, 19, is_now=[(5, 18, 23)])
+    plan.ask("rename", ITEMS_C, 5, 19, is_now=f"type is not known: {ITEMS_C}:6")
+    others = [(ITEMS_H, 7, 4, 7), (ITEMS_H, 12, 21, 24)]
+    plan.ask("uses", ITEMS_C, 2, 5, is_now=others)
+    plan.ask("marks", ITEMS_C, 2, 5, is_now=[(2, 4, 7)])
+    plan.ask("rename", ITEMS_C, 2, 5, is_now=[(ITEMS_C, 2, 4, 7), *others])
 
 
 def declarations(plan: Plan, has_prototypes: bool) -> None:

@@ -44,6 +44,21 @@ class Names(names_model.Text):
         self.parts_of_file = [part for part, place in firsts if not inside[self.index[place]]]
         return inside
 
+    def is_member(self, stream, index):
+        """Whether a name is directly behind an accessor, attributes left out."""
+        before = stream.before(index)
+        is_arrow = stream.text(before) == b">" and stream.is_arrow(before - 1)
+        return is_arrow or stream.is_dot(before)
+
+    def kind_of_brace(self, index):
+        """Takes a brace for a body if one of these words is directly before it or before the names
+        there, also where an attribute without an end hides it from the wide profile."""
+        code, before = self.code, self.code.before(index)
+        while code.is_name(before):
+            before = code.before(before)
+        is_body = code.text(before) in names_model.TAGGED
+        return "body" if is_body else super().kind_of_brace(index)
+
     def declare_in_blocks(self):
         """Takes each name with which a part of an enumeration begins for an enumerator."""
         tokens = enumerate(self.code.tokens)

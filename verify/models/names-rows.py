@@ -4,8 +4,8 @@
     verify/models/names-rows.py
 
 The texts, the questions and the answers are in `names-rows.txt`, which tells their form. What
-`names_model.py` and `reach_model.py` answer has to be the same. Each difference is printed, and the
-exit status is 1 if there is one.
+`names_model.py`, `reach_model.py` and `uses_model.py` answer has to be the same. Each difference is
+printed, and the exit status is 1 if there is one.
 """
 
 from __future__ import annotations
@@ -16,6 +16,8 @@ import sys
 from typing import NamedTuple
 
 from reach_model import Refusal, Tree
+from server_model import Document, Error, Server, word_at
+from session_model import World
 
 HERE = pathlib.Path(__file__).resolve().parent
 sys.path.insert(0, str(HERE.parent))
@@ -80,11 +82,29 @@ def answer(tree, case, verb, mark, *more):
     if verb == "uses":
         uses = tree.uses(file, place)
         return " ".join(shown([(one, use)]) + letter for one, use, letter in uses)
+    server = server_of(case.files)
+    word = word_at(case.files[file], place)
     try:
-        edits = tree.rename(file, place, more[0].encode())
+        if verb == "refs":
+            name, sort = server.wanted(file, case.files[file], place, word)
+            edits = server.uses_in(server.reached(file, name), name, sort)
+        elif verb == "edits":
+            edits = server.renamed(file, word, more[0].encode())
+        else:
+            edits = tree.rename(file, place, more[0].encode())
     except Refusal as refusal:
         return "refused " + refusal.args[0].decode()
+    except Error as error:
+        return "refused " + error.args[1].decode()
     return shown((one, use) for one, uses in edits.items() for use in uses)
+
+
+def server_of(files):
+    """A language server with the wide profile that has these files open."""
+    server = Server(profile=b"--wide")
+    server.world = World(files)
+    server.documents = {name: Document(text) for name, text in files.items()}
+    return server
 
 
 def main() -> int:

@@ -1,7 +1,7 @@
 """Wrong rules that a tired programmer could write, each in place of one of `names_model.py`.
 
 `random-names.py --self-test` has to find each, and `random-editors.py --self-test` those at the
-end, which are of renames of locals and of what is shown of a name.
+end, which are of renames of locals, of what is shown of a name, and of which of its uses count.
 """
 
 from __future__ import annotations
@@ -9,9 +9,12 @@ from __future__ import annotations
 import functools
 import re
 
+import names_model
+from locals_model import names_of
 from names_model import PARTNER, Scope, Text, Thing
 from reach_model import STRANGE, Macro, Refusal, Tree
 from text_model import headers
+from uses_model import ALL, ORDINARY, TAG, Uses
 from wide_model import name_of
 
 
@@ -688,4 +691,138 @@ class IncludedIsPrivate(Tree):
 SHOWN_PLANTS = [
     OneStepOfIncludes, StepsAreForgotten, NearnessOrders, NothingBehind, FunctionsBehind,
     IncludedIsPrivate,
+]  # fmt: skip
+
+
+# ---- which uses count
+
+
+class LocalsCount(Uses):
+    """What means something in its function alone counts, too."""
+
+    def is_bound(self, text, place):
+        return False
+
+
+class LabelsCount(Uses):
+    """A label counts, too."""
+
+    def is_bound(self, text, place):
+        names = names_of(text)
+        return super().is_bound(text, place) and names.binding(place).kind != "label"
+
+
+class ParametersOfMacrosCount(Uses):
+    """A parameter of a macro counts, too."""
+
+    def is_bound(self, text, place):
+        names = names_of(text)
+        return super().is_bound(text, place) and names.binding(place).kind != "parameter"
+
+
+class SpellingCounts(Uses):
+    """All uses count, whatever is asked for."""
+
+    def counts(self, sort, found):
+        return True
+
+
+class OwnSortAlone(Uses):
+    """A use counts only where it is known that it is what is asked for."""
+
+    def counts(self, sort, found):
+        return sort in (ALL, found)
+
+
+class UntoldAreMembers(Uses):
+    """A use of which nothing is known is a member, too."""
+
+    def counts(self, sort, found):
+        return found is None or super().counts(sort, found)
+
+
+class TagsAreOrdinary(Uses):
+    """A tag is an ordinary name."""
+
+    def named_by(self, text, place, members):
+        found = super().named_by(text, place, members)
+        return ORDINARY if found == TAG else found
+
+
+class MembersAreOrdinary(Uses):
+    """The name of the definition of a member is an ordinary name."""
+
+    def members(self, text, name):
+        return set()
+
+
+class MacroIsOrdinary(Uses):
+    """A macro is an ordinary name."""
+
+    def sort(self, space, shown):
+        return ORDINARY if space == "macro" else super().sort(space, shown)
+
+
+class MacroShownIsForgotten(Uses):
+    """Where a macro is shown first, the place alone tells what is asked for."""
+
+    def sort(self, space, shown):
+        return super().sort(space, [])
+
+
+class AnyMacroShown(Uses):
+    """All uses count where a macro is shown, behind other definitions, too."""
+
+    def sort(self, space, shown):
+        is_macro = any(it.kind == b"d" for it in shown)
+        return ALL if is_macro else super().sort(space, shown)
+
+
+class UndefinedIsAll(Uses):
+    """All uses count of a name without a definition."""
+
+    def sort(self, space, shown):
+        return super().sort(space, shown) if shown else ALL
+
+
+class MacroTextIsUntold(Uses):
+    """Of a name in the text of a macro nothing is known."""
+
+    def space(self, text, place):
+        return super().space(text, place) if place in names_of(text).index else None
+
+
+class DirectivesAreText(Uses):
+    """Each directive is read like the text of a macro."""
+
+    def space(self, text, place):
+        names = names_of(text)
+        if place in names.index or super().space(text, place) == "macro":
+            return super().space(text, place)
+        stream, index = names.stream_at(place)
+        if stream.is_dot(index - 1) or stream.is_arrow(index - 2):
+            return "member"
+        return "struct" if stream.text(index - 1) in names_model.TAGGED else "plain"
+
+
+class AttributesAreCode(Uses):
+    """A name in an attribute that is left out is an ordinary name."""
+
+    def space(self, text, place):
+        return "plain" if place in names_of(text).left_out else super().space(text, place)
+
+
+class ConditionsAreOrdinary(Uses):
+    """A name in a condition, and the one that is defined as a macro, is an ordinary name."""
+
+    def named_by(self, text, place, members):
+        found = super().named_by(text, place, members)
+        return ORDINARY if self.space(text, place) == "macro" else found
+
+
+USES_PLANTS = [
+    LocalsCount, LabelsCount, ParametersOfMacrosCount, SpellingCounts, OwnSortAlone,
+    UntoldAreMembers, TagsAreOrdinary, MembersAreOrdinary, MacroIsOrdinary, MacroShownIsForgotten,
+    AnyMacroShown, UndefinedIsAll, MacroTextIsUntold, DirectivesAreText, AttributesAreCode,
+    ConditionsAreOrdinary,
 ]  # fmt: skip

@@ -15,7 +15,9 @@ and trees. The folder holds the texts of the files, or other ones, and links, ha
 and pipes. In some sessions it is written to between two messages, with an event or without: files
 change, vanish and come back, or get a second name. Clients can be asked for events or not. Some
 sessions have more files of one name than are read again. In some, most files include each other and
-have the same few names, and most questions ask what is shown of them. Names are renamed, often
+have the same few names, and most questions ask what is shown of them. In some, one name is a
+function, a member, a tag, a local, a label, a macro and a parameter of one, and most questions ask
+for its uses, mark them or rename it. Names are renamed, often
 where each file was opened or is on disk as the server has it, and then the client makes the edits:
 in each file the new name has to be used where the old one was, and nowhere else. In some sessions
 mostly locals and parameters of macros are renamed, in texts with macros that reach them, directives
@@ -29,8 +31,8 @@ are compared with `server_model.py`.
 
 At the first difference the seed, the input and both outputs are shown and the exit status is 1.
 Else lines tell how often each message was sent and each reply came. The self-test puts each wrong
-rule of `names_plants.py` for renames and for what is shown in the place of the right one, and tells
-how many sessions it takes to see the difference.
+rule of `names_plants.py` for renames, for what is shown and for which uses count in the place of
+the right one, and tells how many sessions it takes to see the difference.
 """
 
 from __future__ import annotations
@@ -54,13 +56,15 @@ from draw import Draw
 from draw_includes import ALL_NAMES, DrawIncludes
 from draw_names import DrawNames
 from draw_renames import DrawRenames
+from draw_uses import DrawUses
 from locals_model import locals_of, names_of
-from names_plants import RENAME_PLANTS, SHOWN_PLANTS
+from names_plants import RENAME_PLANTS, SHOWN_PLANTS, USES_PLANTS
 from reach_model import Tree
 from server_model import MOST_BODY, Ended, Outcome, Server, frame, name_of_operand
 from server_model import place_of, position_of, serve
 from session_model import Bounds, Refused, load
 from text_model import headers
+from uses_model import Uses
 
 sys.path.insert(0, str(pathlib.Path(__file__).resolve().parents[1]))
 from shared import options, words_given  # noqa: E402
@@ -81,6 +85,7 @@ WAYS = ("definition", "declaration", "hover", "prepareCallHierarchy", "reference
         "incoming")
 SHOWING = (*WAYS[:4], "definition", "declaration")
 LOCAL_WAYS = [*WAYS[:6], "documentHighlight", "documentHighlight", "references", "prepareRename"]
+USES_WAYS = [*["references", "documentHighlight", "rename"] * 4, *WAYS[:3], "prepareRename"]
 SYNC = b'{"id":"sync","method":"sync"}'  # its reply says that all before it was read
 DETOURS = ["//", "//", "/./", "/./", "///.//", "/../", "/x/../", "/.../", "/.x/"]
 NOT_NAMES = ["a b.c", "\u00e9.h", "a.cc", "a.txt", "", ".", "x" * 254 + ".c", "\n.c", "a.c?x"]
@@ -147,7 +152,8 @@ BAD_HEADS = [
 
 REFUSED_FOR = re.compile(
     rb"""(not \ open | used \ in \ a \ macro | in \ the \ arguments \ of \ a \ macro | odd \ bytes
-    | used \ from \ outside | not \ text | outside \ the \ root): \ (?: [^"\\] | \\. )+""",
+    | used \ from \ outside | not \ text | outside \ the \ root | type \ is \ not \ known
+    | open \ under \ a \ second \ name): \ (?: [^"\\] | \\. )+""",
     re.VERBOSE,
 )
 
@@ -180,11 +186,14 @@ class Editor:
     def __init__(self, seed: int, home: str):
         self.random, self.draw = random.Random(f"editor {seed}"), Draw(seed)
         self.names, self.renames = DrawNames(seed), DrawRenames(seed)
-        self.includes = DrawIncludes(seed, NAMES)
+        self.includes, self.uses = DrawIncludes(seed, NAMES), DrawUses(seed, NAMES)
         self.is_of_includes = self.chance(0.3)  # more texts of its kind are drawn
+        self.is_of_uses = self.chance(0.1 if self.is_of_includes else 0.3)
         self.profile = self.one(b"", b"", b"", b"--wide", b"--prototypes")
         if self.is_of_includes and self.chance(0.8):
             self.profile = self.one(b"--wide", b"--prototypes", b"--prototypes", b"--prototypes")
+        if self.is_of_uses and self.chance(0.8):
+            self.profile = self.one(b"--wide", b"--prototypes")
         self.folder = self.one(*FOLDERS) if self.chance(0.25) else None
         self.bounds = Bounds()
         if self.chance(0.1):
@@ -361,6 +370,8 @@ class Editor:
 
     def text(self) -> bytes:
         """The bytes of a file."""
+        if self.is_of_uses and self.chance(0.85):
+            return self.with_odd_bytes(self.uses.text(), 0, 0, 0, 0, 0, 0, 0, 1)
         if self.is_of_includes and self.chance(0.85):
             return self.with_odd_bytes(self.includes.text(), 0, 0, 0, 0, 0, 0, 0, 1)
         if self.is_of_locals and self.chance(0.8):
@@ -631,6 +642,30 @@ class Editor:
         files, name = self.server.world.files, self.one(*ALL_NAMES).encode()
         return self.about(self.one(*files), name, SHOWING) if files else self.at_place()
 
+    def about_uses(self) -> dict:
+        """A question about the uses of a name that means many things. Before a rename, the files
+        that cannot be edited yet are often opened."""
+        files, name = self.server.world.files, self.one(*self.uses.names).encode()
+        words = rb"\b%s\b" % name  # those of comments and strings, too
+        found = [(it, at.start()) for it in files for at in re.finditer(words, files[it])]
+        if not found:
+            return self.at_place()
+        file, place = self.one(*found)
+        asked = self.at(file, place + self.one(0, 0, len(name)), self.one(*USES_WAYS))
+        if not asked["method"].endswith("/rename"):
+            return asked
+        others = self.one(*BAD_NAMES), self.one(*NEW_NAMES), self.one(*WORDS)
+        asked["params"]["newName"] = self.one(*["fresh", "longer_name"] * 4, *others)
+        if not self.stays_closed and self.chance(0.7):
+            closed = [it for it in files if not self.server.may_edit(it)]
+            self.next += [self.opened(it) for it in closed if self.chance(0.95)]
+        return self.first_of(asked)
+
+    def first_of(self, last: dict) -> dict:
+        """The first of what is to be sent next, of which this is the last."""
+        self.next.append(last)
+        return self.next.pop(0)
+
     def references(self) -> dict:
         uri = self.uri()
         params = {"textDocument": {"uri": uri}, "position": self.position(uri)}
@@ -808,6 +843,7 @@ class Editor:
             self.about_local: 8,
             self.about_crowd: 40 if self.is_crowd else 0,
             self.about_shown: 200 if self.is_of_includes else 4,
+            self.about_uses: 200 if self.is_of_uses else 4,
             self.rename: 20 if self.stays_closed else 4,
             self.rename_local: 60 if self.is_of_locals else 6,
             self.symbols: 5,
@@ -1026,17 +1062,18 @@ def batch(cbrowse: str, first: int, number: int):
 
 def self_test(first: int, number: int) -> int:
     """Looks for the first session that tells each wrong rule from the right one."""
-    left = [*RENAME_PLANTS, *SHOWN_PLANTS]
+    left = [*RENAME_PLANTS, *SHOWN_PLANTS, *USES_PLANTS]
     for seed in range(first, first + number):
         with tempfile.TemporaryDirectory() as home:
             session = Editor(seed, home).session()
         right = expected(session)
         for plant in [*left]:
-            Server.tree_of = plant
+            is_tree = issubclass(plant, Tree)
+            Server.tree_of, Server.uses_of = (plant, Uses) if is_tree else (Tree, plant)
             if expected(session) != right:
                 print(f"{plant.__name__}: session {seed - first + 1}, of seed {seed}", flush=True)
                 left.remove(plant)
-        Server.tree_of = Tree
+        Server.tree_of, Server.uses_of = Tree, Uses
         if not left:
             break
     for plant in left:

@@ -2,9 +2,10 @@
 
 Messages are framed and judged here, documents are opened, changed and closed, and requests are
 answered. What texts hold is in `text_model.py` and `wide_model.py`, what a name means in its
-function alone in `locals_model.py`. What is shown of any other name, and what a rename does, is in
-`reach_model.py`. Which texts and names of files are accepted is in `session_model.py`, and what is
-found on disk in `disk_model.py`. Memory never runs out here.
+function alone in `locals_model.py`. What is shown of any other name, and what a rename of a local
+does, is in `reach_model.py`, and which uses such a name has in `uses_model.py`. Which texts and
+names of files are accepted is in `session_model.py`, and what is found on disk in `disk_model.py`.
+Memory never runs out here.
 """
 
 from __future__ import annotations
@@ -22,6 +23,7 @@ from locals_model import local_at, names_of, space_at, visible_at
 from reach_model import Refusal, Tree
 from session_model import Bounds, Outcome, Refused, World, drop, is_file_name, load, reload, told
 from text_model import RESERVED, cut_lines, headers, is_counted_alike
+from uses_model import KINDS, MEMBER, Uses
 
 sys.set_int_max_str_digits(0)
 MOST_HEAD, MOST_BODY, MOST_DEPTH = 4_096, 16_000_000, 128
@@ -512,6 +514,7 @@ class Server:
     """The state of a server, and what it has written."""
 
     tree_of = Tree  # what is shown of a name, and what a rename of a local does
+    uses_of = Uses  # which uses any other name has
 
     def __init__(self, bounds=Bounds(), profile=b"", folder=None, disk=None):
         self.world, self.documents = World({}, bounds=bounds), {}
@@ -845,11 +848,16 @@ class Server:
         declare it alone, if they are asked for and there is one."""
         if word is None:
             return []
-        name = text[word[0] : word[1]]
-        members = [it for it in self.named(name)[0] if it.definition.kind == b"m"]
+        space = self.space_of(file, text, place, word)
+        return self.shown_in(file, text[word[0] : word[1]], space, declared)
+
+    def space_of(self, file, text, place, word):
+        """The name space of a word: the name of a member that is defined there is one."""
+        named = self.named(text[word[0] : word[1]])[0]
+        members = [it for it in named if it.definition.kind == b"m"]
         if any(it.file == file and self.is_word_of(it, word) for it in members):
-            return self.shown_in(file, name, "member")
-        return self.shown_in(file, name, space_at(text, place), declared)
+            return "member"
+        return space_at(text, place)
 
     def shown_in(self, file, name, space, declared=False):
         """The same of a name in a space."""
@@ -967,16 +975,33 @@ class Server:
             uses = [it.place for it in local.uses if is_wanted or not it.declares]
             return self.spans_of(file, local.name, uses)
         word = word_at(text, place)
-        name = text[word[0] : word[1]] if word else None
+        if word is None:
+            return listed([])
+        name, sort = self.wanted(file, text, place, word)
         named = self.named(name)[0]
         declared = set() if is_wanted else {(it.file, it.definition.place) for it in named}
-        places = [
-            (it, use.place)
-            for it in self.reached(file, name)
-            for use in self.facts(self.world.files[it]).uses
-            if use.name == name and (it, use.place) not in declared
-        ]
-        return listed(self.location(it, self.span_of(it, place, name)) for it, place in places)
+        uses = self.uses_in(self.reached(file, name), name, sort)
+        places = [(it, use) for it, some in uses.items() for use in some]
+        return listed(
+            self.location(it, self.span_of(it, use, name))
+            for it, use in places
+            if (it, use) not in declared
+        )
+
+    def wanted(self, file, text, place, word):
+        """The name of a word, and what its place asks for."""
+        name = text[word[0] : word[1]]
+        space = self.space_of(file, text, place, word)
+        return name, self.uses.sort(space, self.shown_in(file, name, space))
+
+    def uses_in(self, files, name, sort):
+        """The places of the uses of a name that count, by file."""
+        found = {it: self.uses.places(self.world.files[it], name, sort) for it in files}
+        return {it: places for it, places in found.items() if places}
+
+    @property
+    def uses(self):
+        return self.uses_of(self.facts)
 
     @property
     def tree(self):
@@ -1013,22 +1038,66 @@ class Server:
             raise Error(-32803, b"no such definition")
         if local_at(text, word[0]) is not None:
             return self.rename_by_scope(file, word[0], new)
-        if not re.fullmatch(rb"[A-Za-z_][A-Za-z0-9_]*", new) or new in RESERVED:
-            raise Error(-32803, b"bad name")
-        name, uses = text[word[0] : word[1]], {}
-        _, private = self.named(name)
-        for it in sorted(self.world.files):
-            found = self.facts(self.world.files[it]).uses
-            if any(use.name == new for use in found):
-                raise Error(-32803, b"name is used already")
-            if it == file if file in private else it not in private:
-                uses[it] = [use.place for use in found if use.name == name]
-        uses = {it: places for it, places in uses.items() if places}
-        for it in uses:
+        uses = self.renamed(file, word, new)
+        return self.edits(uses, text[word[0] : word[1]], new)
+
+    def renamed(self, file, word, new):
+        """The places of the uses of a word that is no local, by file, which a rename edits."""
+        name, sort = self.wanted(file, self.world.files[file], word[0], word)
+        self.refuse_names(name, new)
+        uses = self.uses_in(self.reached(file, name), name, sort)
+        if sort == MEMBER:
+            self.refuse_member(file, word[0], name, uses)
+        self.refuse_kept(name, sort, uses)
+        for it in sorted(uses):
+            self.refuse_odd(it, uses[it], name)
+        for it in sorted(uses):
+            if not is_counted_alike(self.world.files[it]):
+                raise Error(-32803, quoted(b"not text: " + it)[1:-1])
+        for it in sorted(uses):
             if not self.may_edit(it):
                 raise Error(-32803, quoted(b"not open: " + it)[1:-1])
             self.refuse_second_name(it, uses)
-        return self.edits(uses, name, new)
+        return uses
+
+    def refuse_names(self, name, new):
+        """A new name is one that no file uses, and the old one is not that of a macro besides."""
+        is_name = re.fullmatch(rb"[A-Za-z_][A-Za-z0-9_]*", new) and new not in RESERVED
+        is_odd = any(it.startswith(b"__") or it in (b"typeof", b"offsetof") for it in (name, new))
+        if not is_name or is_odd:
+            raise Error(-32803, b"bad name")
+        texts = self.world.files.values()
+        if any(use.name == new for text in texts for use in self.facts(text).uses):
+            raise Error(-32803, b"name is used already")
+        kinds = {it.kind for it in self.named(name)[0]}
+        if b"d" in kinds and len(kinds) > 1:
+            raise Error(-32803, b"a macro or type has this name")
+
+    def refuse_member(self, file, place, name, uses):
+        """Of which structure a member is, is not known: the first use is told that is not the name
+        of a definition, or else the word that is asked at."""
+        for it in sorted(uses):
+            first = self.uses.first_untold(self.world.files[it], uses[it], name)
+            if first is not None:
+                file, place = it, first
+                break
+        line = self.world.files[file].count(b"\n", 0, place) + 1
+        raise Error(-32803, quoted(b"type is not known: %s:%d" % (file, line))[1:-1])
+
+    def refuse_kept(self, name, sort, uses):
+        """Where a use is in the file of a definition that is private to it, all uses are."""
+        for one in self.named(name)[0]:
+            is_kept = one.kind in KINDS[sort] and self.tree.is_private(one)
+            outside = [it for it in sorted(uses) if it != one.file]
+            if is_kept and one.file in uses and outside:
+                raise Error(-32803, quoted(b"used from outside: " + outside[0])[1:-1])
+
+    def refuse_odd(self, file, places, name):
+        """No odd byte stands beside a name that is edited."""
+        try:
+            self.tree.refuse_odd(file, places, name)
+        except Refusal as refusal:
+            raise Error(-32803, quoted(refusal.args[0])[1:-1])
 
     def rename_by_scope(self, file, place, new):
         """A rename of what the name at a place means by its scope."""
@@ -1089,11 +1158,11 @@ class Server:
                 for it in local.uses
             )
         word = word_at(text, place)
-        name = text[word[0] : word[1]] if word else None
-        found = [it.place for it in self.facts(text).uses if it.name == name]
-        return listed(
-            b'{"range":%s}' % range_form(text, it, it + len(name), self.is_utf16) for it in found
-        )
+        if word is None:
+            return listed([])
+        name, sort = self.wanted(file, text, place, word)
+        found = self.uses.places(text, name, sort)
+        return listed(b'{"range":%s}' % self.span_of(file, it, name) for it in found)
 
     def completion(self, params):
         file, text, place = self.asked(params)
