@@ -193,7 +193,7 @@ def space_in_directive(line, index):
     """The name space of a name of a directive, or none: a parameter of a macro is no space here."""
     if line.text(1) in names_model.CONDITIONS or (line.text(1) == b"define" and index == 2):
         return "macro"
-    if line.text(1) != b"define":
+    if line.text(1) != b"define" or not line.is_name(2):
         return None
     if line.is_dot(index - 1) or line.is_arrow(index - 2):
         return "member"

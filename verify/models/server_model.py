@@ -23,7 +23,7 @@ from locals_model import local_at, names_of, space_at, visible_at
 from reach_model import Refusal, Tree
 from session_model import Bounds, Outcome, Refused, World, drop, is_file_name, load, reload, told
 from text_model import RESERVED, cut_lines, headers, is_counted_alike
-from uses_model import KINDS, MEMBER, Uses
+from uses_model import KINDS_OF_SORT, MEMBER, Uses
 
 sys.set_int_max_str_digits(0)
 MOST_HEAD, MOST_BODY, MOST_DEPTH = 4_096, 16_000_000, 128
@@ -1087,7 +1087,7 @@ class Server:
     def refuse_kept(self, name, sort, uses):
         """Where a use is in the file of a definition that is private to it, all uses are."""
         for one in self.named(name)[0]:
-            is_kept = one.kind in KINDS[sort] and self.tree.is_private(one)
+            is_kept = one.kind in KINDS_OF_SORT[sort] and self.tree.is_private(one)
             outside = [it for it in sorted(uses) if it != one.file]
             if is_kept and one.file in uses and outside:
                 raise Error(-32803, quoted(b"used from outside: " + outside[0])[1:-1])

@@ -23,7 +23,7 @@ SORTS = {
 
 
 # the kinds of definitions of a sort; of a member it is not known which structure has it
-KINDS = {ALL: b"d", MEMBER: b"", TAG: b"sug", ORDINARY: b"fdtevxp"}
+KINDS_OF_SORT = {ALL: b"d", MEMBER: b"", TAG: b"sug", ORDINARY: b"fdtevxp"}
 
 
 class Uses:
@@ -67,7 +67,7 @@ class Uses:
             use.place
             for use in self.facts(text).uses
             if use.name == name
-            and not self.is_bound(text, use.place)
+            and ((sort == MEMBER and use.place in members) or not self.is_bound(text, use.place))
             and self.counts(sort, self.named_by(text, use.place, members))
         ]
 

@@ -159,11 +159,7 @@ fn file_outside<'a>(file: &[u8], spots: &[FactSpot<'a>]) -> Option<&'a [u8]>
 }
 
 /// The same for the file to which a definition of a sort is private.
-fn kept_outside<'a>(
-    sort: Sort,
-    row: &TagRow<'_>,
-    spots: &[FactSpot<'a>],
-) -> Option<&'a [u8]>
+fn kept_outside<'a>(sort: Sort, row: &TagRow<'_>, spots: &[FactSpot<'a>]) -> Option<&'a [u8]>
     ensures { option_map (λ f. from_outside f.now) result ≡ (if is_kept sort (tag_of row.now)
         then option_map (λ (u : Fact). from_outside u.file)
         (first_outside (tag_of row.now).file (map fact_of_spot spots.now)) else None) }
@@ -246,12 +242,7 @@ impl<'a> Renaming<'a> {
     /// Why uses of a word are not, of which some would be renamed with a definition that is private
     /// to the file of others.
     #[tactic(auto, unfolding(crate::specs::NameRenames::unless_kept))]
-    fn unless_kept(
-        &self,
-        sort: Sort,
-        name: &[u8],
-        spots: &[FactSpot<'a>],
-    ) -> Option<Unedited<'a>>
+    fn unless_kept(&self, sort: Sort, name: &[u8], spots: &[FactSpot<'a>]) -> Option<Unedited<'a>>
         ensures { option_map reason_of result ≡ unless_kept sort (tags_named
             (work_in self.now).world.profile name.now (work_in self.now).world.files)
             (map fact_of_spot spots.now) }
@@ -489,9 +480,7 @@ impl<'a> Renaming<'a> {
     {
         let word = word_at(self.asked.source, place as usize);
         match self.asked.space_there(code, place, word) {
-            Ok(space) => {
-                self.put_word(alloc, disk, out, id, self.asked.renamable(word), space)
-            }
+            Ok(space) => { self.put_word(alloc, disk, out, id, self.asked.renamable(word), space) }
             Err(_) => put_refusal(out, id),
         }
     }

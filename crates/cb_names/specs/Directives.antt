@@ -8,6 +8,7 @@ use Rattle.cb_scan.specs.Bytes.{hash, open_paren}
 use Rattle.cb_scan.specs.declared.lex.piece.Piece.{Piece}
 use Rattle.cb_scan.specs.rules.Code.{is_newline}
 use Rattle.cb_scan.specs.steps.Cut.{pieces}
+use Rattle.cb_names.specs.Braces.{is_name_at}
 use Rattle.cb_names.specs.Labels.{index_at, is_spelled}
 use Rattle.cb_names.specs.Pairs.{is_at}
 use Rattle.cb_names.specs.Parameters.{line_items}
@@ -41,8 +42,9 @@ names_macros text xs =
     (codes "if" ∷ codes "ifdef" ∷ codes "ifndef" ∷ codes "elif" ∷ codes "elifdef" ∷ codes "elifndef"
     ∷ codes "undef" ∷ [])
 
+-- it defines a macro, whose name has index 2
 abbrev pub is_define : (text : List ℕ) → List Item → Bool
-is_define text xs = is_spelled text xs 1 (codes "define")
+is_define text xs = is_spelled text xs 1 (codes "define") && is_name_at xs 2
 
 -- the space of the name at index k in the text of a macro, which is no member
 abbrev pub space_of_text : (text : List ℕ) → List Item → ℕ → Space

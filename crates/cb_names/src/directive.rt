@@ -6,6 +6,7 @@ ghost use Rattle.cb_names.specs.Directives.{line_start, names_macros, space_in_l
 ghost use Rattle.cb_names.specs.Directives.{space_named, space_of_macro, space_of_text};
 ghost use Rattle.cb_names.specs.Functions.{IsItemOf};
 
+use crate::braces::is_name_at;
 use crate::labels::{index_at, is_spelled};
 use crate::pairs::sign;
 use crate::parameter::line_items;
@@ -99,7 +100,7 @@ fn space_named(text: &[u8], items: &[Item], index: u32) -> Option<Space>
 {
     if names_macros(text, items) {
         Some(Space::Macro)
-    } else if is_spelled(text, items, 1, b"define") {
+    } else if is_spelled(text, items, 1, b"define") && is_name_at(items, 2) {
         Some(space_of_macro(text, items, index))
     } else {
         None

@@ -286,7 +286,11 @@ fn is_unsure(shape: &Shape, enums: &[bool], at: u32) -> bool
 }
 
 /// Appends a span, if it is wanted.
-pub(crate) fn push_span_if(is_wanted: bool, one: Span, found: &mut Vec<Span>) -> Result<(), AllocError>
+pub(crate) fn push_span_if(
+    is_wanted: bool,
+    one: Span,
+    found: &mut Vec<Span>,
+) -> Result<(), AllocError>
     ensures { IfOk result
         (λ _. found.new.items ≡ found.old.items ++ (if is_wanted then one ∷ [] else [])) }
 {

@@ -167,7 +167,13 @@ impl Code<'_> {
         ensures { IfOk result (λ found. found.items ≡ own_names self.now name.now) }
     {
         let text = self.source.bytes();
-        match own_in(alloc, text, self.items.as_slice(), self.ranges.as_slice(), name) {
+        match own_in(
+            alloc,
+            text,
+            self.items.as_slice(),
+            self.ranges.as_slice(),
+            name,
+        ) {
             Ok(found) => Ok(found),
             Err(error) => Err(error),
         }

@@ -50,11 +50,7 @@ fn spaced_at(items: &[Item], index: u32) -> SpacedName
 }
 
 /// Appends a token, if it is wanted.
-fn push_if(
-    is_wanted: bool,
-    one: SpacedName,
-    found: &mut Vec<SpacedName>,
-) -> Result<(), AllocError>
+fn push_if(is_wanted: bool, one: SpacedName, found: &mut Vec<SpacedName>) -> Result<(), AllocError>
     ensures { IfOk result
         (λ _. found.new.items ≡ found.old.items ++ (if is_wanted then one ∷ [] else [])) }
 {
@@ -90,11 +86,7 @@ impl Code<'_> {
     /// The names of the code with these bytes, by place, and the name space of each. Labels are not
     /// told from other names, nor members where they are declared. Attributes that are left out
     /// everywhere have no names. Refused memory is the only error. Time in proportion to the text.
-    pub fn spaced_names(
-        &self,
-        alloc: Global,
-        name: &[u8],
-    ) -> Result<Vec<SpacedName>, AllocError>
+    pub fn spaced_names(&self, alloc: Global, name: &[u8]) -> Result<Vec<SpacedName>, AllocError>
         ensures { IfOk result (λ found. found.items ≡ spaced_names self.now name.now) }
     {
         let kept = without_hard(alloc, self.items.as_slice())?;

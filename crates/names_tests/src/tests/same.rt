@@ -46,7 +46,10 @@ fn a_function_owns_its_locals_and_labels(rt: HostRuntime) -> Result<(), Fail> {
 
 #[test]
 fn the_code_tells_spaces_of_one_spelling(rt: HostRuntime) -> Result<(), Fail> {
-    let source = source_of(&rt, b"struct x { int x; } v; int f(void) { return v.x + x(1) + x; }")?;
+    let source = source_of(
+        &rt,
+        b"struct x { int x; } v; int f(void) { return v.x + x(1) + x; }",
+    )?;
     let code = Code::new(rt.alloc(), &source)?;
     let found = code.spaced_names(rt.alloc(), b"x")?;
     let wanted = &[
@@ -62,7 +65,10 @@ fn the_code_tells_spaces_of_one_spelling(rt: HostRuntime) -> Result<(), Fail> {
 
 #[test]
 fn the_line_of_a_macro_tells_spaces_of_one_spelling(rt: HostRuntime) -> Result<(), Fail> {
-    let source = source_of(&rt, b"#define R(p) ((p)->read(1) + read + struct read)\nint read;")?;
+    let source = source_of(
+        &rt,
+        b"#define R(p) ((p)->read(1) + read + struct read)\nint read;",
+    )?;
     let found = macro_names(rt.alloc(), &source, 8, b"read")?;
     let wanted = &[
         (19, Some(Space::Member)),
